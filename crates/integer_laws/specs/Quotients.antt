@@ -4,7 +4,7 @@
 --   IsFloor a d q, IsCeil a d q      q is that number, by inequalities
 --   floor_is, ceil_is                they are
 --   floor_unique, ceil_unique        and no other number is
---   floor_neg, ceil_neg              of a negated number
+--   floor-neg, ceil-neg              of a negated number
 --   floor_le, ceil_le                they keep the order
 --   floor_below, ceil_above          they keep it too where the other number is the fraction a / d, taken over the common denominator
 --   floor_le_ceil                    the one is at most the other
@@ -13,7 +13,7 @@
 use Rattle.std.proofs.Common.{◌≡◌, ◌≤◌, ap, sym, arith, ℤ, pos, negsuc, neg_ℤ, ◌+ℤ◌, ◌-ℤ◌, ◌*ℤ◌, ◌≤ℤ◌, ◌<ℤ◌, unsigned_abs, div-le_self}
 use Rattle.std.proofs.lemmas.Int.{ints}
 use Rattle.std.specs.Int.{int_div_euclid}
-use Rattle.integer_laws.specs.Ring.{expand, neg_neg, mul_neg}
+use Rattle.integer_laws.specs.Ring.{expand, neg-neg, mul-neg}
 use Rattle.integer_laws.specs.Order.{mul_le, mul_positive, cancel_lt, lt_from, add_le_lt}
 
 abbrev pub floor : ℤ → ℤ → ℤ
@@ -39,7 +39,7 @@ floor_is (negsuc a) (negsuc d) p = absurd (omega (arith, ints))
 pub ceil_is : (a d : ℤ) → pos 0 <ℤ d → IsCeil a d (ceil a d)
 ceil_is a d p =
     let f = floor_is (neg_ℤ a) d p in
-    let e = mul_neg d (floor (neg_ℤ a) d) in
+    let e = mul-neg d (floor (neg_ℤ a) d) in
     record { low = omega (arith, ints, e, f.high); high = omega (arith, ints, e, f.low) }
 
 pub least_quotient : (d q r : ℤ) → pos 0 <ℤ d → (d *ℤ q) <ℤ (d *ℤ r +ℤ d) → q ≤ℤ r
@@ -61,11 +61,11 @@ ceil_unique a d q p f =
     let high = least_quotient d (ceil a d) q p (omega (arith, ints, g.low, f.high)) in
     omega (arith, ints)
 
-pub floor_neg : (a d : ℤ) → floor (neg_ℤ a) d ≡ neg_ℤ (ceil a d)
-floor_neg a d = sym (neg_neg (floor (neg_ℤ a) d))
+pub floor-neg : (a d : ℤ) → floor (neg_ℤ a) d ≡ neg_ℤ (ceil a d)
+floor-neg a d = sym (neg-neg (floor (neg_ℤ a) d))
 
-pub ceil_neg : (a d : ℤ) → ceil (neg_ℤ a) d ≡ neg_ℤ (floor a d)
-ceil_neg a d = ap (λ t. neg_ℤ (floor t d)) (neg_neg a)
+pub ceil-neg : (a d : ℤ) → ceil (neg_ℤ a) d ≡ neg_ℤ (floor a d)
+ceil-neg a d = ap (λ t. neg_ℤ (floor t d)) (neg-neg a)
 
 pub floor_below : (a d g w : ℤ) → pos 0 <ℤ d → pos 0 <ℤ g → (d *ℤ w) ≤ℤ a → floor w g ≤ℤ floor a (d *ℤ g)
 floor_below a d g w p q h =
@@ -77,7 +77,7 @@ floor_below a d g w p q h =
 
 pub ceil_above : (a d g w : ℤ) → pos 0 <ℤ d → pos 0 <ℤ g → a ≤ℤ (d *ℤ w) → ceil a (d *ℤ g) ≤ℤ ceil w g
 ceil_above a d g w p q h =
-    let e = mul_neg d w in
+    let e = mul-neg d w in
     let f = floor_below (neg_ℤ a) d g (neg_ℤ w) p q (omega (arith, ints)) in
     omega (arith, ints)
 
