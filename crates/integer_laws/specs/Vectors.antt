@@ -4,12 +4,16 @@
 --   plus a b             entry by entry
 --   scale t a            each entry times t
 --   combined p q a b     p times each entry of a less q times that of b: the step of an elimination
---   zeros n, unit n j    n entries, all 0 or all but a 1 at place j
+--   zeros n, unit n j    n entries, all 0; or all but a 1 at place j
 --
---   dot_comm, dot-plus, dot-scale, dot-combined, dot-append, dot-zeros, dot-unit
---   dot-set              one entry and its factor changed
---   dot_nonpositive      of entries that are not positive with entries that are not negative
---   get_or-plus, get_or-scale, get_or-combined, length-plus, length-scale, length-combined
+--   dot_comm                                           the order of the two lists
+--   dot-plus, dot-scale, dot-combined                  with a list that is made from others
+--   dot-append                                         of joined lists, where the first parts are of one length
+--   dot-zeros, dot-unit                                with zeros; with a unit list, which takes one entry
+--   dot-set                                            with one entry of each list changed
+--   dot_nonpositive                                    of entries that are not positive with entries that are not negative
+--   get_or-plus, get_or-scale, get_or-combined         the entry at a place
+--   length-plus, length-scale, length-combined
 use Rattle.std.proofs.Common.{◌≡◌, ℕ, zero, suc, ◌<◌, max, List, [], ◌∷◌, ◌++◌, length, set, get_or, replicate, refl, ap, arith, ℤ, pos, neg_ℤ, ◌+ℤ◌, ◌-ℤ◌, ◌*ℤ◌, ◌≤ℤ◌, All}
 use Rattle.std.proofs.lemmas.Int.{ints}
 use Rattle.std.proofs.lemmas.List.Elements.{All-head, All-tail}

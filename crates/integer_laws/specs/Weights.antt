@@ -1,19 +1,26 @@
--- Weighted sums over a list: the weights stand in a list of their own. A list of weights that ends early goes on with zeros.
+-- Weighted sums over a list: the weights stand in a list of their own, and one that ends early goes on with zeros.
 --
---   weigh f S w                    the sum of each weight times the value of f at its member
---   total S w                      the sum of the weights
---   AreWeights least S w           one weight for each member, each at least `least`
+--   weigh f S w                  the sum of each weight times the value of f at its member
+--   total S w                    the sum of the weights
+--   AreWeights least S w         one weight for each member, each at least `least`
 --
---   weigh-dot                      the product of the weights and the values
---   weigh-map                      over a mapped list
---   weigh-append, weigh_joined     over a joined list, by the parts of its weights; and by two lists of weights
+--   weigh-dot                    it is the product of the weights and the values
+--   weigh-map                    over a mapped list
+--   weigh-append                 over a joined list, by the two parts of its weights
+--   weigh_joined                 over a joined list, by joined weights
 --   weigh-plus, weigh-scale, weigh-combined, weigh-zeros, weigh-unit     by weights that are made from others
---   weigh-linear                   of a sum of multiples of two functions
---   weigh_constant                 of a function that has one value at all members
---   weigh_at_most, weigh_below     below a bound of the function: where weights are not negative; and where each is positive and a member's value is below
---   length-weights                 there are as many weights as members
---   weights_weaker, weights_map, weights_joined, weights_plus, weights_scale, weights_front, weights_rest
---   total_nonneg, total_positive   the sign of the total
+--   weigh-linear                 of a sum of multiples of two functions
+--   weigh_constant               of a function with one value at all members
+--   weigh_at_most                at most a bound of the function times the total, where no weight is negative
+--   weigh_below                  below it, where each weight is positive and some member has a value below the bound
+--
+--   length-weights               there are as many as members
+--   weights_weaker               they are weights for a lower bound
+--   weights_map                  weights of a mapped list are weights of the list
+--   weights_joined               joined, they are weights of the joined list
+--   weights_front, weights_rest  and its weights fall in two
+--   weights_plus, weights_scale  sums of weights, and multiples
+--   total_nonneg, total_positive the sign of their total
 use Rattle.std.proofs.Common.{◌≡◌, ℕ, zero, suc, ◌<◌, List, [], ◌∷◌, ◌++◌, length, map, take, drop, get_or, refl, ap, arith, ℤ, pos, neg_ℤ, ◌+ℤ◌, ◌-ℤ◌, ◌*ℤ◌, ◌≤ℤ◌, ◌<ℤ◌, inl, inr}
 use Rattle.std.proofs.lemmas.Int.{ints}
 use Rattle.integer_laws.specs.Ring.{expand}

@@ -35,7 +35,7 @@ pub fn difference(a: i128, b: i128) -> i128
     a - b
 }
 
-/// The product a * b.
+/// The product a * b, with room left for the sum or the difference of two.
 pub fn product(a: i128, b: i128) -> i128
     requires { unsigned_abs a * unsigned_abs b < 2 ^ 126 }
     ensures value { result ≡ a *ℤ b }
@@ -45,7 +45,7 @@ pub fn product(a: i128, b: i128) -> i128
     a * b
 }
 
-/// The product a * b, in the type that always holds it.
+/// The product a * b, in the type that always holds it, with room left for the sum or the difference of two.
 pub fn wide_product(a: i64, b: i64) -> i128
     requires a { unsigned_abs a < 2 ^ 63 }
     requires b { unsigned_abs b < 2 ^ 63 }
