@@ -53,7 +53,7 @@ pub fn wide_product(a: i64, b: i64) -> i128
     ensures size { unsigned_abs result ≡ unsigned_abs a * unsigned_abs b }
     ensures room { unsigned_abs result < 2 ^ 126 }
 {
-    i128::from(a) * i128::from(b)
+    product(i128::from(a), i128::from(b))
 }
 
 /// Which of the two is the greater: the sign of a - b, which needs no room for the difference.
