@@ -1,0 +1,4 @@
+pub mod Decimals
+pub mod Lengths
+pub mod Refusals
+pub mod Scanning
