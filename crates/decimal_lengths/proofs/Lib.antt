@@ -2,3 +2,4 @@ pub mod Gathering
 pub mod Running
 pub mod KindLaws
 pub mod Coming
+pub mod Following
