@@ -1,6 +1,5 @@
 -- The length of a decimal in micrometres, and its spelling.
 --
---   IsNearest n d q    q is the whole number nearest to n / d, for d ≥ 1, the one of greater size at a tie
 --   IsRounded m k q    q is the whole number nearest to m * 10 ^ k, the one of greater size at a tie
 --   IsLength bytes um  the bytes are a decimal in millimetres, and um is its length
 --   MOST               the greatest size of a length, in micrometres
@@ -8,11 +7,7 @@
 --   millimetres um     the one spelling of um micrometres in millimetres
 use Rattle.std.specs.Prelude.{◌≡◌, ℕ, ℤ, pos, negsuc, suc, ◌-ℤ◌, ◌+ℤ◌, ◌*ℤ◌, ◌+◌, ◌/◌, ◌%◌, ◌^◌, ◌≤◌, ◌<ℤ◌, ◌==◌, List, [], ◌∷◌, ◌++◌, length, codes, decimal, if◌then◌else◌, unsigned_abs}
 use Rattle.decimal_lengths.specs.Decimals.{IsDecimal, mantissa, power}
-
--- No multiple of d is nearer to n than d * q is, and none as near has a factor of greater size.
-pub record IsNearest (n d q : ℤ) : Type 0 where
-  pub nearest : (r : ℤ) → unsigned_abs (n -ℤ d *ℤ q) ≤ unsigned_abs (n -ℤ d *ℤ r)
-  pub greatest : (r : ℤ) → unsigned_abs (n -ℤ d *ℤ r) ≡ unsigned_abs (n -ℤ d *ℤ q) → unsigned_abs r ≤ unsigned_abs q
+use Rattle.decimal_lengths.specs.Nearest.{IsNearest}
 
 abbrev pub IsRounded : ℤ → ℤ → ℤ → Type 0
 IsRounded m (pos k) q = q ≡ m *ℤ pos (10 ^ k)

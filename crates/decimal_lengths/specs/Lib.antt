@@ -1,3 +1,4 @@
+pub mod Nearest
 pub mod Decimals
 pub mod Lengths
 pub mod Refusals
