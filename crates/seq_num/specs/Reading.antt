@@ -1,0 +1,26 @@
+-- What stands at the front of some bytes, and the bytes after it; None where nothing of the kind stands there.
+--
+--   literal_at text bytes   == the bytes after the text, where they begin with it
+--   digit_count bytes       == how many digits the bytes begin with
+--   whole_len bytes         == how far a leading `-` and the digits after it reach
+--   whole_at bytes          == the number that this front spells, and the bytes after it
+use Rattle.std.specs.Prelude.{ℕ, ℤ, ◌+◌, List, [], ◌∷◌, length, take, drop, ◌==◌, if◌then◌else◌, Option, Some, None}
+use Rattle.std.specs.Option.{option_map}
+use Rattle.std.specs.Char.{is_ascii_digit}
+use Rattle.std.specs.Str.{bytes_eq}
+use Rattle.seq_num.specs.Spelling.{number_of}
+
+unfoldable pub literal_at : List ℕ → List ℕ → Option (List ℕ)
+literal_at text bytes = if bytes_eq (take (length text) bytes) text then Some (drop (length text) bytes) else None
+
+abbrev pub digit_count : List ℕ → ℕ
+digit_count [] = 0
+digit_count (c ∷ cs) = if is_ascii_digit c then digit_count cs + 1 else 0
+
+-- 45 is `-`
+abbrev pub whole_len : List ℕ → ℕ
+whole_len [] = 0
+whole_len (c ∷ cs) = if c == 45 then digit_count cs + 1 else digit_count (c ∷ cs)
+
+unfoldable pub whole_at : List ℕ → Option (ℤ × List ℕ)
+whole_at bytes = option_map (λ n. (n, drop (whole_len bytes) bytes)) (number_of (take (whole_len bytes) bytes))

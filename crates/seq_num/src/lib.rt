@@ -1,0 +1,75 @@
+//! Whole numbers: exact division that rounds, the one decimal spelling of a number, and the first readers of texts.
+//!
+//! A quotient is pinned twice: as the word of std that computes it, and by what it means, as
+//! `d * q <= a < d * q + d` for the one rounded down. That some bytes spell a number is a definition apart from the
+//! code: `read_int` answers None exactly for bytes that spell none, and no bytes spell two numbers.
+//! The readers of the front of a text, `literal` and `whole`, are functions on lists with laws both ways, of which
+//! the readers of descriptions, meshes and plans are made.
+//!
+//! This is the lowest crate: all others count, divide and read with it. No call takes memory.
+#![tactic(auto)]
+
+mod division;
+mod reading;
+mod whole_numbers;
+
+pub use division::{ceil_div, floor_div};
+pub use reading::{literal, whole};
+use std::alloc::AllocError;
+pub use whole_numbers::{one_spelling, read_int, spelling_digits, write_int};
+
+/// Want of memory, as the calls of the crates above answer it.
+#[derive(Clone, Copy, Debug, PartialEq, Eq)]
+pub struct NoMemory;
+
+impl From<AllocError> for NoMemory {
+    fn from(_: AllocError) -> Self {
+        NoMemory
+    }
+}
+
+#[cfg(test)]
+mod tests {
+    use super::*;
+    use std::test::Fail;
+
+    #[test]
+    fn quotients_are_rounded(rt: HostRuntime) {
+        for (a, d, down, up) in [(7, 2, 3, 4), (-7, 2, -4, -3), (-8, 2, -4, -4), (0, 5, 0, 0)] {
+            assert_eq!(rt; floor_div(a, d), down);
+            assert_eq!(rt; ceil_div(a, d), up);
+        }
+    }
+
+    #[test]
+    fn numbers_are_read_and_written(rt: HostRuntime) -> Result<(), Fail> {
+        let spelled = [
+            ("0", 0),
+            ("-1", -1),
+            ("20", 20),
+            ("1267650600228229401496703205375", (1i128 << 100) - 1),
+        ];
+        for (text, n) in spelled {
+            assert_eq!(rt; read_int(text.as_bytes()), Some(n));
+            let mut buffer = [0; 40];
+            let len = write_int(n, &mut buffer);
+            assert_eq!(rt; &buffer[..len], text.as_bytes());
+        }
+        for text in [
+            "",
+            "-",
+            "-0",
+            "01",
+            "+1",
+            "1.5",
+            "1267650600228229401496703205376",
+        ] {
+            assert_eq!(rt; read_int(text.as_bytes()), None);
+        }
+        let rest = literal(b"vertex -20 0\n", b"vertex ").ok_or("no vertex")?;
+        assert_eq!(rt; whole(rest), Some((-20, b" 0\n".as_slice())));
+        assert_eq!(rt; literal(rest, b"vertex "), None);
+        assert_eq!(rt; whole(b"00 "), None);
+        Ok(())
+    }
+}
