@@ -10,7 +10,7 @@ dropped_none kept (suc dropped) n k small = absurd (let f = k.full (omega arith)
 
 pub keeps_next : (kept dropped n digit : ℕ) → digit < 10 → kept < 10 ^ 18 → KeepsDigits (record { kept = kept; dropped = dropped }) n → KeepsDigits (record { kept = kept * 10 + digit; dropped = dropped }) (n * 10 + digit)
 keeps_next kept zero n digit small below k =
-    record { kept = omega (arith, k.kept); room = omega arith; full = λ p. absurd (omega arith) }
+    record { kept = omega (arith, k.kept); full = λ p. absurd (omega arith) }
 keeps_next kept (suc dropped) n digit small below k =
     absurd (let z = dropped_none kept (suc dropped) n k below in omega arith)
 
@@ -20,4 +20,4 @@ drops_next kept dropped n digit small above k =
     let power : 10 ^ (dropped + 1) ≡ 10 * 10 ^ dropped = ap (λ e. 10 ^ e) (add-one dropped) ∙ pow-succ' 10 dropped in
     let same : (n * 10 + digit) / 10 ^ (dropped + 1) ≡ n / 10 ^ dropped =
         ap (λ p. (n * 10 + digit) / p) power ∙ sym (div-div-eq-div-mul (n * 10 + digit) 10 (10 ^ dropped)) ∙ ap (λ m. m / 10 ^ dropped) front in
-    record { kept = k.kept ∙ sym same; room = k.room; full = λ p. above }
+    record { kept = k.kept ∙ sym same; full = λ p. above }

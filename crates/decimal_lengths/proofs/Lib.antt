@@ -3,4 +3,4 @@ pub mod Running
 pub mod KindLaws
 pub mod Coming
 pub mod Following
-pub mod NearestLaws
+pub mod SizeLaws

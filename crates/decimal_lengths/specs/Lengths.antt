@@ -7,7 +7,7 @@
 --   millimetres um     the one spelling of um micrometres in millimetres
 use Rattle.std.specs.Prelude.{◌≡◌, ℕ, ℤ, pos, negsuc, suc, ◌-ℤ◌, ◌+ℤ◌, ◌*ℤ◌, ◌+◌, ◌/◌, ◌%◌, ◌^◌, ◌≤◌, ◌<ℤ◌, ◌==◌, List, [], ◌∷◌, ◌++◌, length, codes, decimal, if◌then◌else◌, unsigned_abs}
 use Rattle.decimal_lengths.specs.Decimals.{IsDecimal, mantissa, power}
-use Rattle.decimal_lengths.specs.Nearest.{IsNearest}
+use Rattle.seq_num.specs.Nearest.{IsNearest}
 
 abbrev pub IsRounded : ℤ → ℤ → ℤ → Type 0
 IsRounded m (pos k) q = q ≡ m *ℤ pos (10 ^ k)

@@ -1,5 +1,5 @@
-pub mod Nearest
 pub mod Decimals
 pub mod Lengths
 pub mod Refusals
 pub mod Scanning
+pub mod Sizes

@@ -9,7 +9,7 @@
 --   with_kind x phase kind  x with what a byte of this kind adds, when it leads to the phase
 --   reading bytes           the phase and the numbers behind the bytes, None where no decimal begins so
 --   Keeps number x          the number in the code keeps of x what its length needs
---   IsCounted number n      no more than n digits are counted in it, and its exponent is small
+--   IsCounted number n      its numbers are small, and no more than n digits are counted in it
 --   Accepts bytes number    the reading comes through the bytes, and the number keeps what it gathers
 --   Stops bytes cause       it doesn't come through them
 use Rattle.std.specs.Prelude.{◌≡◌, ℕ, ◌+◌, ◌*◌, ◌-◌, ◌/◌, ◌^◌, ◌<◌, ◌≤◌, min, ◌==◌, ◌||◌, Bool, true, false, List, [], ◌∷◌, length, take, Option, Some, None, fold, if◌then◌else◌}
@@ -101,7 +101,6 @@ reading bytes = fold step (Some start) bytes
 
 pub record KeepsDigits (digits : Digits) (n : ℕ) : Type 0 where
   pub kept : digits.kept ≡ n / 10 ^ digits.dropped
-  pub room : digits.kept < 10 ^ 19
   pub full : 0 < digits.dropped → 10 ^ 18 ≤ digits.kept
 
 pub record Keeps (number : Number) (x : Spelled) : Type 0 where
@@ -112,6 +111,7 @@ pub record Keeps (number : Number) (x : Spelled) : Type 0 where
   pub exponent : number.exponent ≡ min x.exponent 1000
 
 pub record IsCounted (number : Number) (n : ℕ) : Type 0 where
+  pub kept : number.digits.kept < 10 ^ 19
   pub dropped : number.digits.dropped ≤ n
   pub fraction : number.fraction ≤ n
   pub exponent : number.exponent ≤ 1000

@@ -6,6 +6,7 @@ ghost use Rattle.decimal_lengths.specs.Lengths.{Reads};
 ghost use Rattle.decimal_lengths.specs.Refusals.{Refuses};
 
 mod scanning;
+mod sizing;
 
 /// Why bytes are no length.
 #[derive(Clone, Copy, Debug, PartialEq, Eq)]

@@ -1,6 +1,6 @@
 //! One pass over the bytes of a decimal.
 
-ghost use Rattle.std.specs.Prelude.{◌≡◌, ◌≤◌, ◌<◌, ◌+◌, ◌*◌, ◌↔◌, ℕ, min, length, IfOk, IfErr, IsTrue};
+ghost use Rattle.std.specs.Prelude.{◌≡◌, ◌≤◌, ◌<◌, ◌+◌, ◌*◌, ◌^◌, ◌↔◌, ℕ, min, length, IfOk, IfErr, IsTrue};
 ghost use Rattle.decimal_lengths.specs.Scanning.{kind_of, next_phase, IsComplete, HasDigit, Spelled, nothing, with_kind, KeepsDigits, Keeps, IsCounted, Accepts, Stops};
 
 use crate::Decimal;
@@ -97,6 +97,7 @@ impl Digits {
         requires room { self.dropped < 64 }
         ensures keeps { (n : ℕ) → KeepsDigits self n → KeepsDigits result (n * 10 + digit) }
         ensures counted { result.dropped ≤ self.dropped + 1 }
+        ensures small { self.kept < 10 ^ 19 → result.kept < 10 ^ 19 }
     {
         if self.kept < 1_000_000_000_000_000_000 {
             Digits {
