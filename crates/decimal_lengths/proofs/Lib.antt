@@ -4,3 +4,6 @@ pub mod KindLaws
 pub mod Coming
 pub mod Following
 pub mod SizeLaws
+pub mod Measuring
+pub mod Refusing
+pub mod Answering

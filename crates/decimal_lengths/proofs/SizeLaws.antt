@@ -14,11 +14,11 @@ pub ten_pow_pos : (k : ℕ) → 0 < 10 ^ k
 ten_pow_pos k = omega (arith, one-le-pow k 10 (omega arith))
 
 -- a whole number is its own rounding
-half_up-whole : (m d : ℕ) → 0 < d → half_up (m * d) d ≡ m
+pub half_up-whole : (m d : ℕ) → 0 < d → half_up (m * d) d ≡ m
 half_up-whole m d p = half_up_unique (m * d) d m p (record { low = omega arith; high = omega arith })
 
 -- a common factor falls out
-half_up-factor : (n d c : ℕ) → 0 < d → 0 < c → half_up (n * c) (d * c) ≡ half_up n d
+pub half_up-factor : (n d c : ℕ) → 0 < d → 0 < c → half_up (n * c) (d * c) ≡ half_up n d
 half_up-factor n d c p q =
     let h = half_up_is n d p in
     let u = half_up n d in

@@ -19,5 +19,5 @@ pub record IsLength (bytes : List ℕ) (um : ℤ) : Type 0 where
 
 pub record Reads (bytes : List ℕ) (um : ℤ) : Type 0 where
   pub short : length bytes ≤ 64
-  pub length : IsLength bytes um
+  pub value : IsLength bytes um
   pub near : unsigned_abs um ≤ 10000000

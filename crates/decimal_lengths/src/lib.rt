@@ -1,12 +1,11 @@
 //! Lengths in files.
 #![tactic(auto)]
 
-ghost use Rattle.std.specs.Prelude.{◌≡◌, ◌↔◌, ℤ, Ok, Err};
-ghost use Rattle.decimal_lengths.specs.Lengths.{Reads};
-ghost use Rattle.decimal_lengths.specs.Refusals.{Refuses};
-
+mod reading;
 mod scanning;
 mod sizing;
+
+pub use reading::read_um;
 
 /// Why bytes are no length.
 #[derive(Clone, Copy, Debug, PartialEq, Eq)]
@@ -18,4 +17,3 @@ pub enum Decimal {
     NoDigit,
     TooFar,
 }
-
