@@ -157,7 +157,7 @@ numbers_of p = record {
     exponent = exponent_size p.exponent;
   }
 
-digits_value-append : (n : ℕ) (xs ys : List ℕ) → digits_value_after 10 n (xs ++ ys) ≡ digits_value_after 10 (digits_value_after 10 n xs) ys
+pub digits_value-append : (n : ℕ) (xs ys : List ℕ) → digits_value_after 10 n (xs ++ ys) ≡ digits_value_after 10 (digits_value_after 10 n xs) ys
 digits_value-append n [] ys = refl
 digits_value-append n (c ∷ cs) ys = digits_value-append (n * 10 + digit_value c) cs ys
 

@@ -7,3 +7,4 @@ pub mod SizeLaws
 pub mod Measuring
 pub mod Refusing
 pub mod Answering
+pub mod SpellingLaws

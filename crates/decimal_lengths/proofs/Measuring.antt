@@ -15,7 +15,7 @@ use Rattle.decimal_lengths.proofs.SizeLaws.{half_up-whole, half_up-factor, ten_p
 use Rattle.decimal_lengths.proofs.Coming.{exponent_sign, exponent_size, numbers_of, last_phase, comes_through}
 use Rattle.decimal_lengths.proofs.Following.{decimal_read}
 
-signed-times : (s : Sign) (n m : ℕ) → signed s (n * m) ≡ signed s n *ℤ pos m
+pub signed-times : (s : Sign) (n m : ℕ) → signed s (n * m) ≡ signed s n *ℤ pos m
 signed-times absent n m = refl
 signed-times plus n m = refl
 signed-times minus n m = sym (Ring.neg-mul (pos n) (pos m))

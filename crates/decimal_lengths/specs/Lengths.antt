@@ -1,13 +1,11 @@
--- The length of a decimal in micrometres, and its spelling.
+-- The length of a decimal in micrometres.
 --
---   IsRounded m k q    q is the whole number nearest to m * 10 ^ k, the one of greater size at a tie
---   IsLength bytes um  the bytes are a decimal in millimetres, and um is its length
---   MOST               the greatest size of a length, in micrometres
---   Reads bytes um     the bytes are a decimal of at most 64 bytes, and um is its length, of at most the greatest size
---   millimetres um     the one spelling of um micrometres in millimetres
-use Rattle.std.specs.Prelude.{◌≡◌, ℕ, ℤ, pos, negsuc, suc, ◌-ℤ◌, ◌+ℤ◌, ◌*ℤ◌, ◌+◌, ◌/◌, ◌%◌, ◌^◌, ◌≤◌, ◌<ℤ◌, ◌==◌, List, [], ◌∷◌, ◌++◌, length, codes, decimal, if◌then◌else◌, unsigned_abs}
-use Rattle.decimal_lengths.specs.Decimals.{IsDecimal, mantissa, power}
+--   IsRounded m k q      q is the whole number nearest to m * 10 ^ k, the one of greater size at a tie
+--   IsLength bytes um    the bytes are a decimal in millimetres, and um is its length in micrometres
+--   Reads bytes um       the same, for at most 64 bytes and a length of at most 10,000,000 in size
+use Rattle.std.specs.Prelude.{◌≡◌, ℕ, suc, ℤ, pos, negsuc, ◌+ℤ◌, ◌*ℤ◌, ◌^◌, ◌≤◌, List, length, unsigned_abs}
 use Rattle.seq_num.specs.Nearest.{IsNearest}
+use Rattle.decimal_lengths.specs.Decimals.{IsDecimal, mantissa, power}
 
 abbrev pub IsRounded : ℤ → ℤ → ℤ → Type 0
 IsRounded m (pos k) q = q ≡ m *ℤ pos (10 ^ k)

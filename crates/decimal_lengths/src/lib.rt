@@ -4,8 +4,10 @@
 mod reading;
 mod scanning;
 mod sizing;
+mod writing;
 
 pub use reading::read_um;
+pub use writing::write_um;
 
 /// Why bytes are no length.
 #[derive(Clone, Copy, Debug, PartialEq, Eq)]
