@@ -1,5 +1,5 @@
 -- A reading comes through each decimal, and gathers its numbers.
-use Rattle.std.proofs.Common.{◌≡◌, ℕ, ◌+◌, ◌*◌, ◌<◌, List, [], ◌∷◌, ◌++◌, length, Bool, true, false, Option, Some, None, IfSome, refl, ap, sym, ◌∙◌, fold, arith, add-zero, zero-add, unwrap_or, codes, if◌then◌else◌, ap₂, append_assoc}
+use Rattle.std.proofs.Common.{◌≡◌, ℕ, ◌+◌, ◌*◌, List, [], ◌∷◌, ◌++◌, length, Bool, true, false, Option, Some, None, IfSome, refl, ap, sym, ◌∙◌, fold, arith, add-zero, zero-add, codes, if◌then◌else◌, ap₂, append_assoc}
 use Rattle.std.proofs.lemmas.List.Sums.{fold-append}
 use Rattle.std.proofs.lemmas.List.{append-nil}
 use Rattle.std.specs.Char.{digit_value}
@@ -7,7 +7,7 @@ use Rattle.std.specs.Str.Parse.{digits_value, digits_value_after, AllDigits, IsN
 use Rattle.decimal_lengths.specs.declared.scanning.Phase.{Phase}
 use Rattle.decimal_lengths.specs.declared.scanning.Phase.TheVariants as Phases
 use Rattle.decimal_lengths.specs.Decimals.{Sign, absent, plus, minus, sign_text, Exponent, exponent_text, fraction_text, fraction_digits, Parts, text, all_digits, IsFormed}
-use Rattle.decimal_lengths.specs.Scanning.{kind_of, next_phase, Spelled, nothing, with_kind, State, step, start, reading, IsComplete}
+use Rattle.decimal_lengths.specs.Scanning.{Spelled, nothing, State, step, start, reading, IsComplete}
 use Rattle.decimal_lengths.proofs.KindLaws.{kind_of-digit}
 
 -- the state in a phase
@@ -150,12 +150,12 @@ exponent_size (Some e) = digits_value 10 e.digits
 
 abbrev pub numbers_of : Parts → Spelled
 numbers_of p = record {
-    sign = p.sign;
-    digits = digits_value 10 (all_digits p);
-    fraction = length (fraction_digits p.fraction);
-    exponent_sign = exponent_sign p.exponent;
-    exponent = exponent_size p.exponent;
-  }
+  sign = p.sign;
+  digits = digits_value 10 (all_digits p);
+  fraction = length (fraction_digits p.fraction);
+  exponent_sign = exponent_sign p.exponent;
+  exponent = exponent_size p.exponent;
+}
 
 pub digits_value-append : (n : ℕ) (xs ys : List ℕ) → digits_value_after 10 n (xs ++ ys) ≡ digits_value_after 10 (digits_value_after 10 n xs) ys
 digits_value-append n [] ys = refl

@@ -1,12 +1,12 @@
 -- What may follow in each phase, up to the end of a decimal; and that a reading comes through nothing else.
-use Rattle.std.proofs.Common.{◌≡◌, ℕ, ◌+◌, ◌<◌, List, [], ◌∷◌, ◌++◌, length, Bool, true, false, Option, Some, None, IfSome, refl, ap, ap₂, sym, ◌∙◌, fold, arith, subst, ◌⊎◌, inl, inr}
+use Rattle.std.proofs.Common.{◌≡◌, ℕ, ◌<◌, List, [], ◌∷◌, ◌++◌, length, true, false, Option, Some, None, IfSome, refl, ap, ap₂, sym, ◌∙◌, fold, arith, subst, ◌⊎◌, inl, inr}
 use Rattle.std.specs.Option.{option_map}
 use Rattle.std.specs.Str.Parse.{AllDigits, IsNumeral}
 use Rattle.decimal_lengths.specs.declared.scanning.Kind.{Kind}
 use Rattle.decimal_lengths.specs.declared.scanning.Kind.TheVariants as Kinds
 use Rattle.decimal_lengths.specs.declared.scanning.Phase.{Phase}
 use Rattle.decimal_lengths.specs.declared.scanning.Phase.TheVariants as Phases
-use Rattle.decimal_lengths.specs.Decimals.{Sign, absent, plus, minus, sign_text, Exponent, exponent_text, fraction_text, fraction_digits, Parts, text, all_digits, IsFormed, IsDecimal}
+use Rattle.decimal_lengths.specs.Decimals.{Sign, absent, plus, minus, sign_text, Exponent, exponent_text, fraction_text, fraction_digits, IsDecimal}
 use Rattle.decimal_lengths.specs.Scanning.{kind_of, next_phase, Spelled, with_kind, State, step, start, reading, IsComplete}
 use Rattle.decimal_lengths.proofs.KindLaws.{IsOfKind, kind_of-is}
 use Rattle.decimal_lengths.proofs.Coming.{at}

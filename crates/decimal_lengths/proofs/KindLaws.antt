@@ -1,8 +1,7 @@
 -- What a byte's kind says of it.
-use Rattle.std.proofs.Common.{◌≡◌, ℕ, ◌+◌, ◌-◌, ◌<◌, ◌≤◌, Bool, true, false, refl, arith, ◌⊎◌, inl, inr}
+use Rattle.std.proofs.Common.{◌≡◌, ℕ, ◌<◌, true, false, arith, ◌⊎◌}
 use Rattle.std.proofs.lemmas.Bool.Decides.{nat_tests}
-use Rattle.std.proofs.lemmas.Grind.{common_steps}
-use Rattle.std.specs.Char.{is_ascii_digit, digit_value}
+use Rattle.std.specs.Char.{digit_value}
 use Rattle.decimal_lengths.specs.declared.scanning.Kind.{Kind}
 use Rattle.decimal_lengths.specs.declared.scanning.Kind.TheVariants as Kinds
 use Rattle.decimal_lengths.specs.Scanning.{kind_of}

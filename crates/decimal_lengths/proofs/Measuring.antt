@@ -1,5 +1,5 @@
 -- The numbers that a reading gathers give the length, and a decimal has one length alone.
-use Rattle.std.proofs.Common.{◌≡◌, ℕ, zero, suc, ◌+◌, ◌*◌, ◌^◌, ◌<◌, ◌≤◌, ℤ, pos, negsuc, neg_ℤ, ◌+ℤ◌, ◌-ℤ◌, ◌*ℤ◌, List, [], ◌∷◌, ◌++◌, length, Option, Some, None, refl, sym, ap, ◌∙◌, arith, subst, cond}
+use Rattle.std.proofs.Common.{◌≡◌, ℕ, suc, ◌+◌, ◌*◌, ◌^◌, ◌<◌, ℤ, pos, negsuc, ◌+ℤ◌, ◌-ℤ◌, ◌*ℤ◌, List, length, Option, Some, None, refl, sym, ap, ◌∙◌, arith, subst, cond}
 use Rattle.std.specs.Str.Parse.{digits_value}
 use Rattle.std.proofs.lemmas.Int.{ints}
 use Rattle.std.proofs.lemmas.Nat.{pow-add}
@@ -7,7 +7,7 @@ use Rattle.std.proofs.Math.Nat.{mul_assoc}
 use Rattle.integer_laws.specs.Ring as Ring
 use Rattle.seq_num.specs.Nearest.{IsNearest, half_up}
 use Rattle.seq_num.specs.Laws.Nearest.{half_up_is, nearest_half, IsNearest-neg, nearest_unique}
-use Rattle.decimal_lengths.specs.Decimals.{Sign, absent, plus, minus, signed, all_digits, Exponent, exponent_value, fraction_digits, Parts, text, IsDecimal, mantissa, power}
+use Rattle.decimal_lengths.specs.Decimals.{Sign, absent, plus, minus, signed, all_digits, Exponent, exponent_value, fraction_digits, Parts, IsDecimal, mantissa, power}
 use Rattle.decimal_lengths.specs.Lengths.{IsRounded, IsLength}
 use Rattle.decimal_lengths.specs.Scanning.{Spelled, is_minus, State, reading, IsComplete}
 use Rattle.decimal_lengths.specs.Sizes.{ups, downs, size_of}
@@ -65,7 +65,7 @@ length_read bytes s e done =
     record {
       decimal = d;
       rounded = (let P : State → Type 0 = λ s. IsRounded (mantissa d.parts) (power d.parts +ℤ pos 3) (signed s.numbers.sign (size_of s.numbers)) in
-      subst P (sym (read_end bytes s d e)) (parts_rounded d.parts));
+          subst P (sym (read_end bytes s d e)) (parts_rounded d.parts));
     }
 
 rounded_unique : (m k q r : ℤ) → IsRounded m k q → IsRounded m k r → q ≡ r

@@ -1,5 +1,5 @@
 -- Where a reading stops no decimal begins, and each refusal excludes the others.
-use Rattle.std.proofs.Common.{◌≡◌, ℕ, ◌+◌, ◌<◌, ◌≤◌, ℤ, List, [], ◌∷◌, ◌++◌, length, take, drop, Option, Some, None, Result, Ok, Err, ◌↔◌, refl, sym, ap, ◌∙◌, arith, subst, fold, append_assoc, ⊎_elim, unsigned_abs}
+use Rattle.std.proofs.Common.{◌≡◌, ℕ, ◌+◌, ◌<◌, ℤ, List, [], ◌∷◌, ◌++◌, length, take, drop, Some, None, Result, Ok, Err, ◌↔◌, refl, sym, ap, ◌∙◌, arith, subst, fold, append_assoc, ⊎_elim, unsigned_abs}
 use Rattle.std.proofs.lemmas.List.{take-append-drop, take-take, append-nil}
 use Rattle.std.proofs.lemmas.List.Sums.{fold-append}
 use Rattle.std.proofs.lemmas.Bool.{cases_lt}
@@ -8,10 +8,10 @@ use Rattle.decimal_lengths.specs.declared.Decimal.TheVariants.{Empty, TooLong, B
 use Rattle.decimal_lengths.specs.declared.scanning.Phase.{Phase}
 use Rattle.decimal_lengths.specs.declared.scanning.Phase.TheVariants as Phases
 use Rattle.decimal_lengths.specs.Decimals.{IsDecimal, BeginsDecimal}
-use Rattle.decimal_lengths.specs.Lengths.{IsLength, Reads}
+use Rattle.decimal_lengths.specs.Lengths.{Reads}
 use Rattle.decimal_lengths.specs.Refusals.{IsFirstBad, IsUnfinished, IsFar, Refuses, Answers}
 use Rattle.decimal_lengths.specs.Scanning.{Spelled, State, step, start, reading, IsComplete, StopsAt, StopsShort}
-use Rattle.decimal_lengths.proofs.Coming.{at, last_phase, last_complete, comes_through}
+use Rattle.decimal_lengths.proofs.Coming.{last_complete, comes_through}
 use Rattle.decimal_lengths.proofs.Following.{decimal_read, fold-None}
 use Rattle.decimal_lengths.proofs.Measuring.{one_length}
 
@@ -104,10 +104,10 @@ unfinished bytes stop =
       rest = [];
       finished = finished bytes stop.state stop.came;
       unfinished = λ d. (let t = through bytes d in
-      let P : State → Type 0 = λ s. IsComplete s.phase in
-      let came : Some t.end ≡ Some stop.state = sym t.came ∙ stop.came in
-      let same : t.end ≡ stop.state = cc in
-      stop.incomplete (subst P same t.complete));
+          let P : State → Type 0 = λ s. IsComplete s.phase in
+          let came : Some t.end ≡ Some stop.state = sym t.came ∙ stop.came in
+          let same : t.end ≡ stop.state = cc in
+          stop.incomplete (subst P same t.complete));
     }
 
 -- which cause excludes which

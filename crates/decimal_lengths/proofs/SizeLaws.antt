@@ -1,5 +1,5 @@
 -- The few digits that are kept give the size that all digits give.
-use Rattle.std.proofs.Common.{◌≡◌, ℕ, zero, suc, ◌+◌, ◌-◌, min, ◌*◌, ◌/◌, ◌^◌, ◌<◌, ◌≤◌, refl, sym, ap, ap₂, ◌∙◌, arith, mul-le-mul_left, ◌⊎◌, inl, inr, ⊎_elim, Bool, true, false, cond, Option, Some, None}
+use Rattle.std.proofs.Common.{◌≡◌, ℕ, zero, suc, ◌+◌, ◌-◌, min, ◌*◌, ◌/◌, ◌^◌, ◌<◌, ◌≤◌, sym, ap, ap₂, ◌∙◌, arith, mul-le-mul_left, ◌⊎◌, inl, inr, ⊎_elim, Bool, true, false, cond, Option, Some, None}
 use Rattle.std.proofs.Math.Nat.{mul-div-le, lt-div-mul-add, pow-le-pow_right, one-le-pow, one-le-mul, pow-suc, mul_assoc}
 use Rattle.std.proofs.lemmas.Nat.{pow-add, le-div}
 use Rattle.std.proofs.lemmas.Bool.{cases_lt}

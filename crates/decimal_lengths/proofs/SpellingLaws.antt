@@ -1,17 +1,17 @@
 -- What is written is read again.
-use Rattle.std.proofs.Common.{◌≡◌, ◌≢◌, ℕ, zero, suc, ◌+◌, ◌-◌, ◌*◌, ◌/◌, ◌%◌, ◌^◌, ◌<◌, ◌≤◌, ℤ, pos, negsuc, neg_ℤ, ◌+ℤ◌, ◌-ℤ◌, ◌*ℤ◌, unsigned_abs, List, [], ◌∷◌, ◌++◌, length, Bool, true, false, cond, eqb, Option, Some, None, refl, sym, ap, ap₂, ◌∙◌, arith, subst, decimal, take, slice_set, ◌<ℤ◌, ◌⊎◌, inl, inr, ⊎_elim}
+use Rattle.std.proofs.Common.{◌≡◌, ℕ, ◌+◌, ◌*◌, ◌/◌, ◌%◌, ◌^◌, ◌<◌, ◌≤◌, ℤ, pos, negsuc, ◌+ℤ◌, ◌-ℤ◌, unsigned_abs, List, [], ◌∷◌, ◌++◌, length, Option, Some, None, refl, sym, ap, ap₂, ◌∙◌, arith, subst, decimal, take, slice_set, ◌<ℤ◌, ⊎_elim}
 use Rattle.std.proofs.lemmas.Bool.{cases_lt}
 use Rattle.std.proofs.lemmas.Int.{ints}
 use Rattle.std.proofs.lemmas.Bool.Decides.{nat_tests}
 use Rattle.std.proofs.lemmas.List.{append-nil, length-append}
 use Rattle.std.proofs.lemmas.Fmt.{decimal_is_IsNumeral}
 use Rattle.std.specs.Char.{digit_value}
-use Rattle.std.specs.Str.Parse.{digits_value, digits_value_after, AllDigits, IsNumeral}
-use Rattle.decimal_lengths.specs.Decimals.{Sign, absent, plus, minus, sign_text, signed, fraction_text, fraction_digits, Parts, text, IsFormed, IsDecimal, mantissa, power}
-use Rattle.decimal_lengths.specs.Lengths.{IsRounded, IsLength, Reads}
+use Rattle.std.specs.Str.Parse.{digits_value, digits_value_after, AllDigits}
+use Rattle.decimal_lengths.specs.Decimals.{Sign, absent, minus, sign_text, signed, fraction_text, fraction_digits, Parts, text, IsFormed, mantissa, power}
+use Rattle.decimal_lengths.specs.Lengths.{IsRounded, Reads}
 use Rattle.decimal_lengths.proofs.Coming.{digits_value-append}
 use Rattle.decimal_lengths.proofs.Measuring.{signed-times}
-use Rattle.decimal_lengths.specs.Spelling.{trimmed_front, trimmed, three_digits, thousandths, sign_of_length, millimetres}
+use Rattle.decimal_lengths.specs.Spelling.{three_digits, thousandths, sign_of_length, millimetres}
 
 digit_value-of : (d : ℕ) → d < 10 → digit_value (48 + d) ≡ d
 digit_value-of d h = grind (arith, nat_tests)

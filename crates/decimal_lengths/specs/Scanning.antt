@@ -12,7 +12,7 @@
 --   IsCounted number n      its numbers are small, and no more than n digits are counted in it
 --   Accepts bytes number    the reading comes through the bytes, and the number keeps what it gathers
 --   Stops bytes cause       it doesn't come through them
-use Rattle.std.specs.Prelude.{◌≡◌, ℕ, ◌+◌, ◌*◌, ◌-◌, ◌/◌, ◌^◌, ◌<◌, ◌≤◌, min, ◌==◌, ◌||◌, Bool, true, false, List, [], ◌∷◌, length, take, Option, Some, None, fold, if◌then◌else◌}
+use Rattle.std.specs.Prelude.{◌≡◌, ℕ, ◌+◌, ◌*◌, ◌-◌, ◌/◌, ◌^◌, ◌<◌, ◌≤◌, min, ◌==◌, ◌||◌, Bool, true, false, List, length, take, Option, Some, None, fold, if◌then◌else◌}
 use Rattle.std.specs.Option.{option_map}
 use Rattle.std.specs.Char.{is_ascii_digit}
 use Rattle.decimal_lengths.specs.declared.Decimal.{Decimal}

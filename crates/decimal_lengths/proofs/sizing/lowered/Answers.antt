@@ -1,4 +1,4 @@
-use Rattle.std.proofs.Common.{sym, arith}
+use Rattle.std.proofs.Common.{arith}
 use Rattle.decimal_lengths.proofs.SizeLaws.{half_up-unit, half_up-far, ten_pow_pos}
 use Rattle.decimal_lengths.proofs.sizing.lowered.Goals as goal
 

@@ -7,6 +7,6 @@ pub returns-then-kept-gt-GREATEST : goal.returns-then-kept-gt-GREATEST
 returns-then-kept-gt-GREATEST c =
     far_above c.args.kept c.args.by (omega arith)
     (elim c.then-kept-gt-GREATEST.branch [
-      then-kept-gt-GREATEST-via-then-kept-gt-GREATEST w ↦ inl (omega arith)
-    | then-kept-gt-GREATEST-via-else-kept-gt-GREATEST+then-by-gt7 w ↦ inr (omega arith)
+      | then-kept-gt-GREATEST-via-then-kept-gt-GREATEST w ↦ inl (omega arith)
+      | then-kept-gt-GREATEST-via-else-kept-gt-GREATEST+then-by-gt7 w ↦ inr (omega arith)
     ])

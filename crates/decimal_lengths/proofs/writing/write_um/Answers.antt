@@ -1,4 +1,4 @@
-use Rattle.std.proofs.Common.{◌≡◌, ◌/◌, ◌≤◌, ◌∙◌, length, take, ap, arith, rules, unsigned_abs, ◌%◌, ◌++◌}
+use Rattle.std.proofs.Common.{◌≡◌, ◌/◌, ◌∙◌, length, take, ap, arith, rules}
 use Rattle.std.proofs.lemmas.Int.{ints}
 use Rattle.std.proofs.lemmas.Fmt.{length-decimal-le}
 use Rattle.std.proofs.lemmas.List.{length-take}

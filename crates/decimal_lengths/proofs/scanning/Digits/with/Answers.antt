@@ -1,5 +1,3 @@
-use Rattle.std.proofs.Common.{ap, subst, ℕ, ◌+◌, ◌*◌, sym}
-use Rattle.decimal_lengths.specs.Scanning.{KeepsDigits}
 use Rattle.decimal_lengths.proofs.Gathering.{keeps_next, drops_next}
 use Rattle.decimal_lengths.proofs.scanning.Digits.with.Goals as goal
 
