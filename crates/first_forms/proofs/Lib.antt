@@ -1,0 +1,4 @@
+pub mod Described
+pub mod Fields
+pub mod Lines
+pub mod Facets

@@ -1,0 +1,5 @@
+use Rattle.lone_object.proofs.Alone.{alone_valid}
+use Rattle.lone_object.proofs.placing.lone_place_is_valid.Goals as goal
+
+pub returns : goal.returns
+returns c = alone_valid

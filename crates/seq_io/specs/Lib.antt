@@ -1,0 +1,9 @@
+pub mod Counts
+pub mod Files
+pub mod Taken
+pub mod OpenFiles
+pub mod MemShelf
+pub mod SureShelf
+pub mod MemSink
+pub mod SureSink
+pub mod DirShelf

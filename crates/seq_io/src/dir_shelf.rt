@@ -1,0 +1,93 @@
+ghost use Rattle.std.specs.Prelude.{◌≡◌, string_bytes, is_err, None, Some, false};
+ghost use Rattle.std.specs.Io.{ReadsAtMost};
+ghost use Rattle.seq_io.specs.Counts.{raised, HasCause};
+
+use crate::{Failed, Shelf};
+use owned_lists::Text;
+use std::fs::File;
+use std::io::Read;
+use std::marker::Model;
+
+/// The files of the system, by their paths from the current folder. What they hold isn't told.
+#[derive(Drop)]
+pub struct DirShelf {
+    rt: HostRuntime,
+    file: Option<File>,
+    named: Option<Text>,
+    broken: bool,
+    faults: u64,
+}
+
+impl Model for DirShelf {
+    ghost use Rattle.seq_io.specs.DirShelf.{DirState};
+
+    ghost Value = { DirState };
+
+    ghost view = { λ s. record { named = s.named; broken = s.broken; faults = s.faults } };
+}
+
+impl DirShelf {
+    pub fn new(rt: HostRuntime) -> DirShelf
+        ensures { result ≡ record { named = None; broken = false; faults = 0 } }
+    {
+        DirShelf {
+            rt,
+            file: None,
+            named: None,
+            broken: false,
+            faults: 0,
+        }
+    }
+}
+
+impl Shelf for DirShelf {
+    ghost files = { λ s. None };
+
+    ghost rest = { λ s. None };
+
+    ghost faults = { λ s. s.faults };
+
+    ghost named = { λ s. s.named };
+
+    ghost broken = { λ s. s.broken };
+
+    ghost told = { λ s h. h };
+
+    fn start(&mut self, name: String) -> Result<(), Failed>
+        ensures state { self.new ≡ record {
+          named = Some (string_bytes name);
+          broken = is_err result;
+          faults = raised (is_err result) self.old.faults;
+        } }
+        ensures cause { HasCause self.old.faults self.new.faults result }
+    {
+        self.file = File::open(&self.rt, name.as_str()).ok();
+        self.named = Some(Text::from_string(name));
+        self.broken = self.file.is_none();
+        if self.broken {
+            self.faults = self.faults.saturating_add(1);
+            return Err(Failed);
+        }
+        Ok(())
+    }
+
+    fn read(&mut self, buf: &mut [u8]) -> Result<usize, Failed>
+        ensures bound { ReadsAtMost result buf.new }
+        ensures state { self.new ≡ record self.old {
+          broken = is_err result;
+          faults = raised (is_err result) self.old.faults;
+        } }
+        ensures cause { HasCause self.old.faults self.new.faults result }
+    {
+        self.broken = false;
+        let Some(file) = &mut self.file else {
+            return Ok(0);
+        };
+        let Ok(count) = file.read(buf) else {
+            self.broken = true;
+            self.faults = self.faults.saturating_add(1);
+            return Err(Failed);
+        };
+        Ok(count)
+    }
+}

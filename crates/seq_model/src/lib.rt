@@ -1,0 +1,22 @@
+//! The types that all crates share, and the definitions that all promises speak of.
+//!
+//! A mesh is a list of facets in micrometres. A printer has a grain, a plate, bands, a margin, a grid of
+//! extents and parts that move with its nozzle tip. A plan gives each object a place, in printing order.
+//! The types keep their own bounds, so whoever is handed a `Mesh` or a `Printer` has them.
+//!
+//! What a reader of the project has to believe stands in `specs/`, one module for each subject: `Bands`
+//! (the corner points of a band), `Outlines` (its spots, and inner points), `Plates` (the region of an
+//! extent) and `Scenes` (collisions, and when a plan is valid). The only call here is `region`.
+#![tactic(auto)]
+
+mod extent;
+mod mesh;
+mod plan;
+mod plate;
+mod printer;
+
+pub use extent::region;
+pub use mesh::{Facet, Mesh, Point3};
+pub use plan::{Place, Plan};
+pub use plate::Region;
+pub use printer::{Part, Printer, Spot};
