@@ -5,7 +5,7 @@ use Rattle.decimal_lengths.specs.declared.Decimal.{Decimal}
 use Rattle.decimal_lengths.specs.declared.Decimal.TheVariants.{BadByte, NoDigit, TooFar}
 use Rattle.decimal_lengths.specs.declared.scanning.Number.{Number}
 use Rattle.decimal_lengths.specs.Decimals.{Sign, absent, plus, minus, signed}
-use Rattle.decimal_lengths.specs.Lengths.{Reads}
+use Rattle.decimal_lengths.specs.Lengths.{IsReadAs}
 use Rattle.decimal_lengths.specs.Refusals.{Answers}
 use Rattle.decimal_lengths.specs.Scanning.{Spelled, is_minus, Keeps, Accepts, Stops}
 use Rattle.decimal_lengths.specs.Sizes.{size_of, IsUpTo}
@@ -38,12 +38,12 @@ far bytes number short a above =
       },
     )
 
-pub near : (bytes : List ℕ) (number : Number) (size : ℕ) → length bytes ≤ 64 → Accepts bytes number → ((x : Spelled) → Keeps number x → IsUpTo (size_of x) (Some size)) → Reads bytes (cond number.negative (neg_ℤ (pos size)) (pos size))
+pub near : (bytes : List ℕ) (number : Number) (size : ℕ) → length bytes ≤ 64 → Accepts bytes number → ((x : Spelled) → Keeps number x → IsUpTo (size_of x) (Some size)) → IsReadAs bytes (cond number.negative (neg_ℤ (pos size)) (pos size))
 near bytes number size short a is =
     let x = a.comes.numbers in
     let s = is x a.comes.keeps in
     let um : signed x.sign (size_of x) ≡ cond number.negative (neg_ℤ (pos size)) (pos size) =
     ap (signed x.sign) (sym s.0) ∙ signed_by x.sign size ∙ ap (λ b. cond b (neg_ℤ (pos size)) (pos size)) (sym a.comes.keeps.negative) in
     let small : size_of x ≤ 10000000 = omega (arith, s.0, s.1) in
-    let P : ℤ → Type 0 = Reads bytes in
+    let P : ℤ → Type 0 = IsReadAs bytes in
     subst P um (record { short = short; value = length_read bytes _ a.comes.came a.complete; near = rw signed_size small })

@@ -8,7 +8,7 @@ use Rattle.decimal_lengths.specs.declared.Decimal.TheVariants.{Empty, TooLong, B
 use Rattle.decimal_lengths.specs.declared.scanning.Phase.{Phase}
 use Rattle.decimal_lengths.specs.declared.scanning.Phase.TheVariants as Phases
 use Rattle.decimal_lengths.specs.Decimals.{IsDecimal, BeginsDecimal}
-use Rattle.decimal_lengths.specs.Lengths.{Reads}
+use Rattle.decimal_lengths.specs.Lengths.{IsReadAs}
 use Rattle.decimal_lengths.specs.Refusals.{IsFirstBad, IsUnfinished, IsFar, Refuses, Answers}
 use Rattle.decimal_lengths.specs.Scanning.{Spelled, State, step, start, reading, IsComplete, StopsAt, StopsShort}
 use Rattle.decimal_lengths.proofs.Coming.{last_complete, comes_through}
@@ -114,7 +114,7 @@ unfinished bytes stop =
 empty_length : (bytes : List ℕ) → bytes ≡ [] → length bytes ≡ 0
 empty_length bytes e = ap length e
 
-far_not_near : (bytes : List ℕ) (um : ℤ) → Reads bytes um → IsFar bytes → ⊥
+far_not_near : (bytes : List ℕ) (um : ℤ) → IsReadAs bytes um → IsFar bytes → ⊥
 far_not_near bytes um r f =
     let same : um ≡ f.um = one_length bytes um f.um r.value f.value in
     let near = r.near in
@@ -161,7 +161,7 @@ only_too_far bytes (Err (BadByte p)) h a = sym (only_bad_byte bytes p (Err TooFa
 only_too_far bytes (Err NoDigit) h a = sym (only_no_digit bytes (Err TooFar) a h)
 only_too_far bytes (Err TooFar) h a = refl
 
-only_length : (bytes : List ℕ) (um : ℤ) (r : Result ℤ Decimal) → Reads bytes um → Answers bytes r → Ok um ≡ r
+only_length : (bytes : List ℕ) (um : ℤ) (r : Result ℤ Decimal) → IsReadAs bytes um → Answers bytes r → Ok um ≡ r
 only_length bytes um (Ok other) h a = ap Ok (one_length bytes um other h.value a.value)
 only_length bytes um (Err Empty) h a = sym (only_empty bytes (Ok um) a h)
 only_length bytes um (Err TooLong) h a = sym (only_too_long bytes (Ok um) a h)

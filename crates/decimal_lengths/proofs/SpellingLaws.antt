@@ -8,7 +8,7 @@ use Rattle.std.proofs.lemmas.Fmt.{decimal_is_IsNumeral}
 use Rattle.std.specs.Char.{digit_value}
 use Rattle.std.specs.Str.Parse.{digits_value, digits_value_after, AllDigits}
 use Rattle.decimal_lengths.specs.Decimals.{Sign, absent, minus, sign_text, signed, fraction_text, fraction_digits, Parts, text, IsFormed, mantissa, power}
-use Rattle.decimal_lengths.specs.Lengths.{IsRounded, Reads}
+use Rattle.decimal_lengths.specs.Lengths.{IsRounded, IsReadAs}
 use Rattle.decimal_lengths.proofs.Coming.{digits_value-append}
 use Rattle.decimal_lengths.proofs.Measuring.{signed-times}
 use Rattle.decimal_lengths.specs.Spelling.{three_digits, thousandths, sign_of_length, millimetres}
@@ -129,7 +129,7 @@ rounded um f small =
     let P : ℤ → Type 0 = λ k. IsRounded (signed (sign_behind um) (digits_value 10 (decimal (n / 1000) ++ digits))) k um in
     subst P (sym places) (sym (signed_size um) ∙ ap (signed (sign_behind um)) (sym value) ∙ signed-times (sign_behind um) _ (10 ^ f.places))
 
-pub spelled_reads : (um : ℤ) → unsigned_abs um ≤ 10000000 → length (millimetres um) ≤ 64 → Reads (millimetres um) um
+pub spelled_reads : (um : ℤ) → unsigned_abs um ≤ 10000000 → length (millimetres um) ≤ 64 → IsReadAs (millimetres um) um
 spelled_reads um near short =
     let f = behind (unsigned_abs um % 1000) (omega arith) in
     let small : unsigned_abs um / 1000 < 2 ^ 64 = omega arith in

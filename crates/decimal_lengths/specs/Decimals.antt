@@ -1,16 +1,17 @@
--- What a decimal is, and the number m * 10 ^ k that it spells:
+-- What a decimal is, and the number m * 10 ^ k that it spells.
 --
---     sign  digits  [ "."  digits ]  [ ( "e" | "E" )  sign  digits ]
+--     decimal   =  sign digits [ "." digits ] [ exponent ]      with at least one digit beside the point
+--     exponent  =  ( "e" | "E" ) sign digits                    with at least one digit
+--     sign      =  nothing, "+" or "-"
 --
---   Parts, text p         the parts of a decimal, and the bytes that they are written as
---   IsFormed p            at least one digit stands beside the point, and at least one in the exponent
+--   Parts, text p         the parts of a decimal, and the bytes that they make
+--   IsFormed p            what they are to have: digits alone, and at least one where one is wanted
 --   IsDecimal bytes       the bytes are a decimal
---   mantissa p, power p   its m and its k
---   BeginsDecimal bytes   some decimal begins with the bytes, or is they
+--   mantissa p, power p   its m, the digits read without the point, and its k
+--   BeginsDecimal bytes   some decimal begins with the bytes
 use Rattle.std.specs.Prelude.{◌≡◌, ℕ, ℤ, pos, neg_ℤ, ◌-ℤ◌, List, [], ◌++◌, length, codes, Bool, if◌then◌else◌, Option, Some, None, unwrap_or, IfSome}
 use Rattle.std.specs.Str.Parse.{digits_value, IsNumeral}
 
--- what may stand before digits
 pub data Sign : Type 0 where
   absent : Sign
   plus : Sign
@@ -40,7 +41,7 @@ abbrev pub exponent_value : Option Exponent → ℤ
 exponent_value None = pos 0
 exponent_value (Some e) = signed e.sign (digits_value 10 e.digits)
 
--- a fraction is the digits behind a point; None: there is no point
+-- the digits behind the point, None where there is no point
 abbrev pub fraction_text : Option (List ℕ) → List ℕ
 fraction_text None = []
 fraction_text (Some digits) = codes "." ++ digits
@@ -57,7 +58,7 @@ pub record Parts : Type 0 where
 abbrev pub text : Parts → List ℕ
 text p = sign_text p.sign ++ (p.whole ++ (fraction_text p.fraction ++ exponent_text p.exponent))
 
--- the digits on both sides of the point
+-- those on both sides of the point
 abbrev pub all_digits : Parts → List ℕ
 all_digits p = p.whole ++ fraction_digits p.fraction
 
@@ -70,7 +71,6 @@ pub record IsDecimal (bytes : List ℕ) : Type 0 where
   pub formed : IsFormed parts
   pub spelled : bytes ≡ text parts
 
--- the digits read without the point
 abbrev pub mantissa : Parts → ℤ
 mantissa p = signed p.sign (digits_value 10 (all_digits p))
 

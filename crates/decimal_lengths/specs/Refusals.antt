@@ -1,4 +1,4 @@
--- Why bytes are refused. The causes exclude one another, so their order is part of what each says.
+-- Why bytes are refused. Each cause says that none before it holds, so that no bytes have two.
 --
 --   IsFirstBad bytes p     p is the first place such that no decimal begins with the bytes up to and including p
 --   IsUnfinished bytes     the bytes are a proper prefix of a decimal, and none themselves
@@ -9,7 +9,7 @@ use Rattle.std.specs.Prelude.{◌≡◌, ℕ, ℤ, ◌+◌, ◌<◌, ◌≤◌, 
 use Rattle.decimal_lengths.specs.declared.Decimal.{Decimal}
 use Rattle.decimal_lengths.specs.declared.Decimal.TheVariants.{Empty, TooLong, BadByte, NoDigit, TooFar}
 use Rattle.decimal_lengths.specs.Decimals.{IsDecimal, BeginsDecimal}
-use Rattle.decimal_lengths.specs.Lengths.{IsLength, Reads}
+use Rattle.decimal_lengths.specs.Lengths.{IsLength, IsReadAs}
 
 pub record IsFirstBad (bytes : List ℕ) (p : ℕ) : Type 0 where
   pub within : p < length bytes
@@ -25,7 +25,7 @@ pub record IsUnfinished (bytes : List ℕ) : Type 0 where
 pub record IsFar (bytes : List ℕ) : Type 0 where
   pub um : ℤ
   pub value : IsLength bytes um
-  pub far : 10000000 < unsigned_abs um
+  pub far : 10_000_000 < unsigned_abs um
 
 abbrev pub Refuses : List ℕ → Decimal → Type 0
 Refuses bytes Empty = bytes ≡ []
@@ -35,5 +35,5 @@ Refuses bytes NoDigit = (0 < length bytes) × (length bytes ≤ 64) × IsUnfinis
 Refuses bytes TooFar = (length bytes ≤ 64) × IsFar bytes
 
 abbrev pub Answers : List ℕ → Result ℤ Decimal → Type 0
-Answers bytes (Ok um) = Reads bytes um
+Answers bytes (Ok um) = IsReadAs bytes um
 Answers bytes (Err cause) = Refuses bytes cause

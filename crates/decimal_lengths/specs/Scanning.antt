@@ -27,7 +27,11 @@ use Rattle.decimal_lengths.specs.Decimals.{Sign, absent, plus, minus}
 
 abbrev pub kind_of : ℕ → Kind
 kind_of c =
-    if is_ascii_digit c then Kinds.Digit (c - 48) else (if c == 43 then Kinds.Sign false else (if c == 45 then Kinds.Sign true else (if c == 46 then Kinds.Point else (if c == 101 || c == 69 then Kinds.Letter else Kinds.Other))))
+    if is_ascii_digit c then Kinds.Digit (c - 48) else (
+    if c == 43 then Kinds.Sign false else (
+    if c == 45 then Kinds.Sign true else (
+    if c == 46 then Kinds.Point else (
+    if c == 101 || c == 69 then Kinds.Letter else Kinds.Other))))
 
 abbrev pub next_phase : Phase → Kind → Option Phase
 next_phase Phases.Start (Kinds.Digit d) = Some Phases.Whole

@@ -3,7 +3,7 @@
 --
 --   ups x, downs x    the length in micrometres is the digits of x, times 10 ^ ups x, divided by 10 ^ downs x
 --   size_of x         its size, rounded
---   IsShift number    the same shift for the digits that the code keeps
+--   IsShift number    how far up and down the digits are to go that the code keeps: the dropped ones count
 --   IsUpTo n size     the size is n, and None where n is above the greatest size of a length
 use Rattle.std.specs.Prelude.{◌≡◌, ℕ, ◌+◌, ◌*◌, ◌^◌, ◌<◌, ◌≤◌, Option, Some, None, if◌then◌else◌}
 use Rattle.seq_num.specs.Nearest.{half_up}
@@ -19,11 +19,10 @@ downs x = x.fraction + (if is_minus x.exponent_sign then x.exponent else 0)
 abbrev pub size_of : Spelled → ℕ
 size_of x = half_up (x.digits * 10 ^ ups x) (10 ^ downs x)
 
--- up and down are how far the kept digits are shifted: by the dropped ones too, and by no more than 1,000 for the exponent
 pub record IsShift (number : Number) (up down : ℕ) : Type 0 where
   pub up_is : up ≡ number.digits.dropped + 3 + (if number.exponent_negative then 0 else number.exponent)
   pub down_is : down ≡ number.fraction + (if number.exponent_negative then number.exponent else 0)
 
 abbrev pub IsUpTo : ℕ → Option ℕ → Type 0
-IsUpTo n None = 10000000 < n
-IsUpTo n (Some size) = (size ≡ n) × (size ≤ 10000000)
+IsUpTo n None = 10_000_000 < n
+IsUpTo n (Some size) = (size ≡ n) × (size ≤ 10_000_000)

@@ -1,22 +1,27 @@
 //! Reads a length.
 
 ghost use Rattle.std.specs.Prelude.{◌≡◌, ◌↔◌, ◌<◌, ◌≤◌, ◌^◌, ℤ, Ok, Err, length, if◌then◌else◌, neg_ℤ, pos};
-ghost use Rattle.decimal_lengths.specs.Lengths.{Reads};
+ghost use Rattle.decimal_lengths.specs.Lengths.{IsReadAs};
 ghost use Rattle.decimal_lengths.specs.Refusals.{Refuses, Answers};
 
 use crate::Decimal;
 use crate::scanning::scan;
 use crate::sizing::size;
 
-/// The length in µm of a decimal in millimetres: rounded to the nearest, ties away from zero.
+const MOST_BYTES: usize = 64;
+
+/// The length in µm of a decimal in millimetres, rounded to the nearest, ties away from zero.
+///
+/// A decimal is an optional sign, digits with at most one point and at least one digit, and optionally `e` or `E` with
+/// an optional sign and at least one digit.
 pub fn read_um(bytes: &[u8]) -> Result<i64, Decimal>
-    ensures length { (um : ℤ) → (result ≡ Ok um) ↔ Reads bytes.now um }
+    ensures length { (um : ℤ) → (result ≡ Ok um) ↔ IsReadAs bytes.now um }
     ensures refused { (cause : Decimal) → (result ≡ Err cause) ↔ Refuses bytes.now cause }
 {
     if bytes.is_empty() {
         return Err(Decimal::Empty);
     }
-    if bytes.len() > 64 {
+    if bytes.len() > MOST_BYTES {
         return Err(Decimal::TooLong);
     }
     read_short(bytes)

@@ -1,4 +1,4 @@
-//! One pass over the bytes of a decimal.
+//! One pass over the bytes of a decimal, which gathers its numbers.
 
 ghost use Rattle.std.specs.Prelude.{◌≡◌, ◌≤◌, ◌<◌, ◌+◌, ◌*◌, ◌^◌, ◌↔◌, ℕ, min, length, IfOk, IfErr, IsTrue};
 ghost use Rattle.decimal_lengths.specs.Scanning.{kind_of, next_phase, IsComplete, HasDigit, Spelled, nothing, with_kind, KeepsDigits, Keeps, IsCounted, Accepts, Stops};
@@ -12,6 +12,7 @@ pub enum Kind {
     /// Whether it is a minus.
     Sign(bool),
     Point,
+    /// `e` or `E`.
     Letter,
     Other,
 }
@@ -49,6 +50,12 @@ pub struct Number {
     /// The size of the exponent, or 1,000 where it is greater.
     pub exponent: u32,
 }
+
+// Below 10 ^ 18 there is room for one more digit.
+const ROOM: u64 = 1_000_000_000_000_000_000;
+
+// 64 digits don't make up for an exponent of this size.
+const FAR: u32 = 1_000;
 
 fn kind_of(byte: u8) -> Kind
     ensures { result ≡ kind_of byte }
@@ -91,7 +98,6 @@ impl Phase {
 }
 
 impl Digits {
-    // Below 10 ^ 18 one more digit still fits.
     fn with(self, digit: u8) -> Digits
         requires digit { digit < 10 }
         requires room { self.dropped < 64 }
@@ -99,7 +105,7 @@ impl Digits {
         ensures counted { result.dropped ≤ self.dropped + 1 }
         ensures small { self.kept < 10 ^ 19 → result.kept < 10 ^ 19 }
     {
-        if self.kept < 1_000_000_000_000_000_000 {
+        if self.kept < ROOM {
             Digits {
                 kept: self.kept * 10 + u64::from(digit),
                 dropped: self.dropped,
@@ -119,7 +125,7 @@ fn exponent_with(exponent: u32, digit: u8) -> u32
     ensures keeps { (n : ℕ) → exponent ≡ min n 1000 → result ≡ min (n * 10 + digit) 1000 }
     ensures small { result ≤ 1000 }
 {
-    (exponent * 10 + u32::from(digit)).min(1_000)
+    (exponent * 10 + u32::from(digit)).min(FAR)
 }
 
 impl Number {

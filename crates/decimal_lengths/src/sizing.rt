@@ -44,6 +44,7 @@ fn raised(kept: u64, by: u32) -> Option<u64>
     if kept == 0 {
         return Some(0);
     }
+    // 10 ^ 8 is above the greatest.
     if kept > GREATEST || by > 7 {
         return None;
     }
@@ -56,6 +57,7 @@ fn lowered(kept: u64, by: u32) -> Option<u64>
     requires fits { kept < 10 ^ 19 }
     ensures { IsUpTo (half_up kept (10 ^ by)) result }
 {
+    // No 19 digits come near to half of 10 ^ 20.
     if by > 19 {
         return Some(0);
     }
