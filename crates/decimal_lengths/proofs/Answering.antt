@@ -27,7 +27,8 @@ signed_by absent n = refl
 signed_by plus n = refl
 signed_by minus n = refl
 
-pub far : (bytes : List ℕ) (number : Number) → length bytes ≤ 64 → Accepts bytes number → ((x : Spelled) → Keeps number x → IsUpTo (size_of x) None) → Answers bytes (Err TooFar)
+pub far : (bytes : List ℕ) (number : Number) → length bytes ≤ 64 → Accepts bytes number → ((x : Spelled) → Keeps number x → IsUpTo (size_of x) None)
+    → Answers bytes (Err TooFar)
 far bytes number short a above =
     let x = a.comes.numbers in (
       short,
@@ -38,7 +39,8 @@ far bytes number short a above =
       },
     )
 
-pub near : (bytes : List ℕ) (number : Number) (size : ℕ) → length bytes ≤ 64 → Accepts bytes number → ((x : Spelled) → Keeps number x → IsUpTo (size_of x) (Some size)) → IsReadAs bytes (cond number.negative (neg_ℤ (pos size)) (pos size))
+pub near : (bytes : List ℕ) (number : Number) (size : ℕ) → length bytes ≤ 64 → Accepts bytes number
+    → ((x : Spelled) → Keeps number x → IsUpTo (size_of x) (Some size)) → IsReadAs bytes (cond number.negative (neg_ℤ (pos size)) (pos size))
 near bytes number size short a is =
     let x = a.comes.numbers in
     let s = is x a.comes.keeps in

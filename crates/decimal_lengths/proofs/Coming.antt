@@ -75,7 +75,8 @@ pub AllDigits-append : (xs ys : List ℕ) → AllDigits 10 (xs ++ ys) → AllDig
 AllDigits-append [] ys h = (tt, h)
 AllDigits-append (c ∷ cs) ys h = let r = AllDigits-append cs ys h.1 in ((h.0, r.0), r.1)
 
-digits_run : (s : Sign) (x : Spelled) (whole : List ℕ) (fraction : Option (List ℕ)) → IsNumeral 10 (whole ++ fraction_digits fraction) → fold step (at (front_phase s) x) (whole ++ fraction_text fraction) ≡ at (digits_phase fraction) (with_point (with_whole x whole) fraction)
+digits_run : (s : Sign) (x : Spelled) (whole : List ℕ) (fraction : Option (List ℕ)) → IsNumeral 10 (whole ++ fraction_digits fraction)
+    → fold step (at (front_phase s) x) (whole ++ fraction_text fraction) ≡ at (digits_phase fraction) (with_point (with_whole x whole) fraction)
 digits_run s x [] None h = absurd (omega (arith, h.0))
 digits_run s x [] (Some []) h = absurd (omega (arith, h.0))
 digits_run s x [] (Some (c ∷ cs)) h = ap (λ s. fold step s (c ∷ cs)) (bare_point s x) ∙ bare_fraction x c cs h.1
@@ -101,7 +102,8 @@ signed_phase minus = Phases.ExponentSigned
 abbrev pub with_exponent_sign : Spelled → Sign → Spelled
 with_exponent_sign x s = record x { exponent_sign = s }
 
-letter_run : (fraction : Option (List ℕ)) (x : Spelled) (capital : Bool) → fold step (at (digits_phase fraction) x) (if capital then codes "E" else codes "e") ≡ at Phases.Letter x
+letter_run : (fraction : Option (List ℕ)) (x : Spelled) (capital : Bool)
+    → fold step (at (digits_phase fraction) x) (if capital then codes "E" else codes "e") ≡ at Phases.Letter x
 letter_run None x true = refl
 letter_run None x false = refl
 letter_run (Some ds) x true = refl
@@ -112,7 +114,8 @@ exponent_sign_run x absent e = ap (λ s. at Phases.Letter (record x { exponent_s
 exponent_sign_run x plus e = refl
 exponent_sign_run x minus e = refl
 
-exponent_enter : (s : Sign) (x : Spelled) (c : ℕ) (cs : List ℕ) → AllDigits 10 (c ∷ cs) → fold step (at (signed_phase s) x) (c ∷ cs) ≡ at Phases.Exponent (with_exponent x (c ∷ cs))
+exponent_enter : (s : Sign) (x : Spelled) (c : ℕ) (cs : List ℕ) → AllDigits 10 (c ∷ cs)
+    → fold step (at (signed_phase s) x) (c ∷ cs) ≡ at Phases.Exponent (with_exponent x (c ∷ cs))
 exponent_enter absent x c cs h = rw (kind_of-digit c h.0) (exponent_run (record x { exponent = x.exponent * 10 + digit_value c }) cs h.1)
 exponent_enter plus x c cs h = rw (kind_of-digit c h.0) (exponent_run (record x { exponent = x.exponent * 10 + digit_value c }) cs h.1)
 exponent_enter minus x c cs h = rw (kind_of-digit c h.0) (exponent_run (record x { exponent = x.exponent * 10 + digit_value c }) cs h.1)
@@ -129,7 +132,9 @@ abbrev pub with_tail : Spelled → Option Exponent → Spelled
 with_tail x None = x
 with_tail x (Some e) = with_exponent (with_exponent_sign x e.sign) e.digits
 
-tail_run : (fraction : Option (List ℕ)) (x : Spelled) (exponent : Option Exponent) → x.exponent_sign ≡ absent → IfSome exponent (λ e. IsNumeral 10 e.digits) → fold step (at (digits_phase fraction) x) (exponent_text exponent) ≡ at (last_phase fraction exponent) (with_tail x exponent)
+tail_run : (fraction : Option (List ℕ)) (x : Spelled) (exponent : Option Exponent) → x.exponent_sign ≡ absent
+    → IfSome exponent (λ e. IsNumeral 10 e.digits)
+    → fold step (at (digits_phase fraction) x) (exponent_text exponent) ≡ at (last_phase fraction exponent) (with_tail x exponent)
 tail_run fraction x None a h = refl
 tail_run fraction x (Some e) a h =
     let letter : List ℕ = if e.capital then codes "E" else codes "e" in
@@ -161,7 +166,8 @@ pub digits_value-append : (n : ℕ) (xs ys : List ℕ) → digits_value_after 10
 digits_value-append n [] ys = refl
 digits_value-append n (c ∷ cs) ys = digits_value-append (n * 10 + digit_value c) cs ys
 
-gathered : (s : Sign) (whole : List ℕ) (fraction : Option (List ℕ)) (exponent : Option Exponent) → with_tail (with_point (with_whole (with_sign s) whole) fraction) exponent ≡ numbers_of (record { sign = s; whole = whole; fraction = fraction; exponent = exponent })
+gathered : (s : Sign) (whole : List ℕ) (fraction : Option (List ℕ)) (exponent : Option Exponent)
+    → with_tail (with_point (with_whole (with_sign s) whole) fraction) exponent ≡ numbers_of (record { sign = s; whole = whole; fraction = fraction; exponent = exponent })
 gathered s whole None None = ap (λ ds. record { sign = s; digits = digits_value 10 ds; fraction = 0; exponent_sign = absent; exponent = 0 }) (sym (append-nil whole))
 gathered s whole None (Some e) = ap (λ ds. record { sign = s; digits = digits_value 10 ds; fraction = 0; exponent_sign = e.sign; exponent = digits_value 10 e.digits }) (sym (append-nil whole))
 gathered s whole (Some ds) None = ap₂ (λ v n. record { sign = s; digits = v; fraction = n; exponent_sign = absent; exponent = 0 }) (sym (digits_value-append 0 whole ds)) (zero-add (length ds))

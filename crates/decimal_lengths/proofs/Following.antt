@@ -110,7 +110,9 @@ pub fold-None : (bytes : List ℕ) → fold step None bytes ≡ None
 fold-None [] = refl
 fold-None (c ∷ cs) = fold-None cs
 
-rest_from : (next : Option Phase) (x : Phase → Spelled) (bytes : List ℕ) (end : State) → ((phase : Phase) (x : Spelled) → fold step (at phase x) bytes ≡ Some end → Rest phase bytes) → fold step (option_map (λ phase. record { phase = phase; numbers = x phase }) next) bytes ≡ Some end → RestIn next bytes
+rest_from : (next : Option Phase) (x : Phase → Spelled) (bytes : List ℕ) (end : State)
+    → ((phase : Phase) (x : Spelled) → fold step (at phase x) bytes ≡ Some end → Rest phase bytes)
+    → fold step (option_map (λ phase. record { phase = phase; numbers = x phase }) next) bytes ≡ Some end → RestIn next bytes
 rest_from None x bytes end rest e = absurd (let n = fold-None bytes in cc)
 rest_from (Some phase) x bytes end rest e = rest phase (x phase) e
 

@@ -7,13 +7,15 @@ dropped_none : (kept dropped n : ℕ) → KeepsDigits (record { kept = kept; dro
 dropped_none kept zero n k small = refl
 dropped_none kept (suc dropped) n k small = absurd (let f = k.full (omega arith) in omega arith)
 
-pub keeps_next : (kept dropped n digit : ℕ) → digit < 10 → kept < 10 ^ 18 → KeepsDigits (record { kept = kept; dropped = dropped }) n → KeepsDigits (record { kept = kept * 10 + digit; dropped = dropped }) (n * 10 + digit)
+pub keeps_next : (kept dropped n digit : ℕ) → digit < 10 → kept < 10 ^ 18 → KeepsDigits (record { kept = kept; dropped = dropped }) n
+    → KeepsDigits (record { kept = kept * 10 + digit; dropped = dropped }) (n * 10 + digit)
 keeps_next kept zero n digit small below k =
     record { kept = omega (arith, k.kept); full = λ p. absurd (omega arith) }
 keeps_next kept (suc dropped) n digit small below k =
     absurd (let z = dropped_none kept (suc dropped) n k below in omega arith)
 
-pub drops_next : (kept dropped n digit : ℕ) → digit < 10 → 10 ^ 18 ≤ kept → KeepsDigits (record { kept = kept; dropped = dropped }) n → KeepsDigits (record { kept = kept; dropped = dropped + 1 }) (n * 10 + digit)
+pub drops_next : (kept dropped n digit : ℕ) → digit < 10 → 10 ^ 18 ≤ kept → KeepsDigits (record { kept = kept; dropped = dropped }) n
+    → KeepsDigits (record { kept = kept; dropped = dropped + 1 }) (n * 10 + digit)
 drops_next kept dropped n digit small above k =
     let front : (n * 10 + digit) / 10 ≡ n = omega arith in
     let power : 10 ^ (dropped + 1) ≡ 10 * 10 ^ dropped = ap (λ e. 10 ^ e) (add-one dropped) ∙ pow-succ' 10 dropped in

@@ -40,7 +40,8 @@ rounded_shift s n a b (pos t) e = ap (signed s) (rounded_up n a b t (omega (arit
 rounded_shift s n a b (negsuc t) e =
     rw (rounded_down n a b (suc t) (omega (arith, ints))) (signed_nearest s n (10 ^ suc t) (ten_pow_pos (suc t)))
 
-exponent_shift : (e : Option Exponent) (f : ℕ) → (exponent_value e -ℤ pos f) +ℤ pos 3 ≡ pos (3 + cond (is_minus (exponent_sign e)) 0 (exponent_size e)) -ℤ pos (f + cond (is_minus (exponent_sign e)) (exponent_size e) 0)
+exponent_shift : (e : Option Exponent) (f : ℕ)
+    → (exponent_value e -ℤ pos f) +ℤ pos 3 ≡ pos (3 + cond (is_minus (exponent_sign e)) 0 (exponent_size e)) -ℤ pos (f + cond (is_minus (exponent_sign e)) (exponent_size e) 0)
 exponent_shift None f = omega (arith, ints)
 exponent_shift (Some e) f = signed_shift e.sign (digits_value 10 e.digits) f
   where

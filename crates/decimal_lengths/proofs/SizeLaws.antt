@@ -81,7 +81,8 @@ raised_zero digits n a b s keeps nothing =
     let power = ten_pow_pos b in
     ap (λ m. half_up (m * 10 ^ a) (10 ^ b)) none ∙ half_up-zero (0 * 10 ^ a) (10 ^ b) (omega arith) ∙ sym (ap (λ k. k * 10 ^ s) nothing ∙ omega arith)
 
-raised_some : (digits : Digits) (n a b s : ℕ) → KeepsDigits digits n → 0 < digits.kept → (s ≤ 7 → s + b ≡ digits.dropped + a) → digits.kept * 10 ^ s ≤ 10 ^ 7 → half_up (n * 10 ^ a) (10 ^ b) ≡ digits.kept * 10 ^ s
+raised_some : (digits : Digits) (n a b s : ℕ) → KeepsDigits digits n → 0 < digits.kept → (s ≤ 7 → s + b ≡ digits.dropped + a)
+    → digits.kept * 10 ^ s ≤ 10 ^ 7 → half_up (n * 10 ^ a) (10 ^ b) ≡ digits.kept * 10 ^ s
 raised_some digits n a b s keeps some same small =
     let kept = digits.kept in
     let power : 10 ^ s ≤ kept * 10 ^ s = (let one : 10 ^ s * 1 ≤ 10 ^ s * kept = mul-le-mul_left (10 ^ s) some in omega arith) in
@@ -90,11 +91,13 @@ raised_some digits n a b s keeps some same small =
     let places : a ≡ s + b = (let e = same (short_power s (omega arith)) in omega (arith, all.0)) in
     ap₂ (λ m k. half_up (m * 10 ^ k) (10 ^ b)) (sym all.1) places ∙ ap (λ m. half_up m (10 ^ b)) (ap (λ p. kept * p) (pow-add 10 s b) ∙ sym (mul_assoc kept (10 ^ s) (10 ^ b))) ∙ half_up-whole (kept * 10 ^ s) (10 ^ b) (ten_pow_pos b)
 
-pub raised_same : (digits : Digits) (n a b s : ℕ) → KeepsDigits digits n → (s ≤ 7 → s + b ≡ digits.dropped + a) → digits.kept * 10 ^ s ≤ 10 ^ 7 → half_up (n * 10 ^ a) (10 ^ b) ≡ digits.kept * 10 ^ s
+pub raised_same : (digits : Digits) (n a b s : ℕ) → KeepsDigits digits n → (s ≤ 7 → s + b ≡ digits.dropped + a) → digits.kept * 10 ^ s ≤ 10 ^ 7
+    → half_up (n * 10 ^ a) (10 ^ b) ≡ digits.kept * 10 ^ s
 raised_same digits n a b s keeps same small =
     ⊎_elim (λ k. raised_zero digits n a b s keeps (omega arith)) (λ k. raised_some digits n a b s keeps k same small) (cases_lt digits.kept 1)
 
-lowered_far : (digits : Digits) (n a b s : ℕ) → KeepsDigits digits n → digits.kept < 10 ^ 19 → 20 ≤ s → digits.dropped + a + s ≤ b → half_up (n * 10 ^ a) (10 ^ b) ≡ half_up digits.kept (10 ^ s)
+lowered_far : (digits : Digits) (n a b s : ℕ) → KeepsDigits digits n → digits.kept < 10 ^ 19 → 20 ≤ s → digits.dropped + a + s ≤ b
+    → half_up (n * 10 ^ a) (10 ^ b) ≡ half_up digits.kept (10 ^ s)
 lowered_far digits n a b s keeps small far h =
     let r = digits.dropped in
     let power : 10 ^ 20 ≤ 10 ^ s = pow-le-pow_right (omega arith) far in
@@ -114,15 +117,20 @@ lowered_near digits n a b s keeps e =
     ∙ sym (half_up-front n s r)
     ∙ ap (λ k. half_up k (10 ^ suc s)) (sym keeps.kept)
 
-pub lowered_same : (digits : Digits) (n a b s : ℕ) → KeepsDigits digits n → digits.kept < 10 ^ 19 → digits.dropped + a + suc s ≤ b → (suc s < 20 → b ≡ digits.dropped + a + suc s) → half_up (n * 10 ^ a) (10 ^ b) ≡ half_up digits.kept (10 ^ suc s)
+pub lowered_same : (digits : Digits) (n a b s : ℕ) → KeepsDigits digits n → digits.kept < 10 ^ 19 → digits.dropped + a + suc s ≤ b
+    → (suc s < 20 → b ≡ digits.dropped + a + suc s) → half_up (n * 10 ^ a) (10 ^ b) ≡ half_up digits.kept (10 ^ suc s)
 lowered_same digits n a b s keeps small h same =
     ⊎_elim (λ k. lowered_near digits n a b s keeps (same k)) (λ k. lowered_far digits n a b (suc s) keeps small k h) (cases_lt (suc s) 20)
 
-raising : (negative : Bool) (exponent e fraction dropped up down : ℕ) → e ≡ min exponent 1000 → dropped ≤ 64 → fraction ≤ 64 → up ≡ dropped + 3 + cond negative 0 e → down ≡ fraction + cond negative e 0 → down ≤ up → ((up - down) + (fraction + cond negative exponent 0) ≤ dropped + (3 + cond negative 0 exponent)) × ((up - down) ≤ 7 → (up - down) + (fraction + cond negative exponent 0) ≡ dropped + (3 + cond negative 0 exponent))
+raising : (negative : Bool) (exponent e fraction dropped up down : ℕ) → e ≡ min exponent 1000 → dropped ≤ 64 → fraction ≤ 64
+    → up ≡ dropped + 3 + cond negative 0 e → down ≡ fraction + cond negative e 0 → down ≤ up
+    → ((up - down) + (fraction + cond negative exponent 0) ≤ dropped + (3 + cond negative 0 exponent)) × ((up - down) ≤ 7 → (up - down) + (fraction + cond negative exponent 0) ≡ dropped + (3 + cond negative 0 exponent))
 raising true exponent e fraction dropped up down small d f u v h = (omega arith, λ s. omega arith)
 raising false exponent e fraction dropped up down small d f u v h = (omega arith, λ s. omega arith)
 
-lowering : (negative : Bool) (exponent e fraction dropped up down s : ℕ) → e ≡ min exponent 1000 → dropped ≤ 64 → fraction ≤ 64 → up ≡ dropped + 3 + cond negative 0 e → down ≡ fraction + cond negative e 0 → down ≡ up + suc s → (dropped + (3 + cond negative 0 exponent) + suc s ≤ fraction + cond negative exponent 0) × (suc s < 20 → fraction + cond negative exponent 0 ≡ dropped + (3 + cond negative 0 exponent) + suc s)
+lowering : (negative : Bool) (exponent e fraction dropped up down s : ℕ) → e ≡ min exponent 1000 → dropped ≤ 64 → fraction ≤ 64
+    → up ≡ dropped + 3 + cond negative 0 e → down ≡ fraction + cond negative e 0 → down ≡ up + suc s
+    → (dropped + (3 + cond negative 0 exponent) + suc s ≤ fraction + cond negative exponent 0) × (suc s < 20 → fraction + cond negative exponent 0 ≡ dropped + (3 + cond negative 0 exponent) + suc s)
 lowering true exponent e fraction dropped up down s small d f u v h = (omega arith, λ k. omega arith)
 lowering false exponent e fraction dropped up down s small d f u v h = (omega arith, λ k. omega arith)
 
@@ -130,7 +138,8 @@ at_most_also : (n m : ℕ) (size : Option ℕ) → n ≤ m → (n ≤ 10 ^ 7 →
 at_most_also n m None le same h = omega arith
 at_most_also n m (Some size) le same h = (let e : m ≡ n = same (omega arith) in omega arith, h.1)
 
-pub raised_size : (number : Number) (up down : ℕ) (x : Spelled) (size : Option ℕ) → IsCounted number 64 → IsShift number up down → Keeps number x → down ≤ up → IsUpTo (number.digits.kept * 10 ^ (up - down)) size → IsUpTo (size_of x) size
+pub raised_size : (number : Number) (up down : ℕ) (x : Spelled) (size : Option ℕ) → IsCounted number 64 → IsShift number up down → Keeps number x
+    → down ≤ up → IsUpTo (number.digits.kept * 10 ^ (up - down)) size → IsUpTo (size_of x) size
 raised_size number up down x size counted shift keeps h is =
     let up_is = rw keeps.exponent_negative at shift.up_is in
     let down_is = rw (keeps.exponent_negative, keeps.fraction) at shift.down_is in
@@ -141,7 +150,8 @@ raised_size number up down x size counted shift keeps h is =
     (raised_same number.digits x.digits (ups x) (downs x) (up - down) keeps.digits r.1)
     is
 
-lowered_by_more : (number : Number) (up down s : ℕ) (x : Spelled) (size : Option ℕ) → IsCounted number 64 → IsShift number up down → Keeps number x → down ≡ up + suc s → IsUpTo (half_up number.digits.kept (10 ^ suc s)) size → IsUpTo (size_of x) size
+lowered_by_more : (number : Number) (up down s : ℕ) (x : Spelled) (size : Option ℕ) → IsCounted number 64 → IsShift number up down → Keeps number x
+    → down ≡ up + suc s → IsUpTo (half_up number.digits.kept (10 ^ suc s)) size → IsUpTo (size_of x) size
 lowered_by_more number up down s x size counted shift keeps h is =
     let up_is = rw keeps.exponent_negative at shift.up_is in
     let down_is = rw (keeps.exponent_negative, keeps.fraction) at shift.down_is in
@@ -150,7 +160,8 @@ lowered_by_more number up down s x size counted shift keeps h is =
     let same : size_of x ≡ half_up number.digits.kept (10 ^ suc s) = lowered_same number.digits x.digits (ups x) (downs x) s keeps.digits counted.kept r.0 r.1 in
     rw same is
 
-pub lowered_size : (number : Number) (up down by : ℕ) (x : Spelled) (size : Option ℕ) → IsCounted number 64 → IsShift number up down → Keeps number x → up < down → by ≡ down - up → IsUpTo (half_up number.digits.kept (10 ^ by)) size → IsUpTo (size_of x) size
+pub lowered_size : (number : Number) (up down by : ℕ) (x : Spelled) (size : Option ℕ) → IsCounted number 64 → IsShift number up down → Keeps number x
+    → up < down → by ≡ down - up → IsUpTo (half_up number.digits.kept (10 ^ by)) size → IsUpTo (size_of x) size
 lowered_size number up down zero x size counted shift keeps h e is = absurd (omega arith)
 lowered_size number up down (suc s) x size counted shift keeps h e is = lowered_by_more number up down s x size counted shift keeps (omega arith) is
 

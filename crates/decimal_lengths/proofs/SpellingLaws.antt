@@ -1,5 +1,5 @@
 -- What is written is read again.
-use Rattle.std.proofs.Common.{◌≡◌, ℕ, ◌+◌, ◌*◌, ◌/◌, ◌%◌, ◌^◌, ◌<◌, ◌≤◌, ℤ, pos, negsuc, ◌+ℤ◌, ◌-ℤ◌, unsigned_abs, List, [], ◌∷◌, ◌++◌, length, Option, Some, None, refl, sym, ap, ap₂, ◌∙◌, arith, subst, decimal, take, slice_set, ◌<ℤ◌, ⊎_elim}
+use Rattle.std.proofs.Common.{◌≡◌, ℕ, zero, suc, ◌+◌, ◌*◌, ◌/◌, ◌%◌, ◌^◌, ◌<◌, ◌≤◌, ℤ, pos, negsuc, ◌+ℤ◌, ◌-ℤ◌, unsigned_abs, List, [], ◌∷◌, ◌++◌, length, Option, Some, None, refl, sym, ap, ap₂, ◌∙◌, arith, subst, decimal, take, slice_set, ◌<ℤ◌, ⊎_elim}
 use Rattle.std.proofs.lemmas.Bool.{cases_lt}
 use Rattle.std.proofs.lemmas.Int.{ints}
 use Rattle.std.proofs.lemmas.Bool.Decides.{nat_tests}
@@ -76,8 +76,15 @@ three_behind n few some =
       value = λ w. omega arith;
     }
 
+hundreds_behind : (n : ℕ) → n < 1000 → n % 100 ≡ 0 → Fraction n
+hundreds_behind zero few e = none_behind
+hundreds_behind (suc n) few e = one_behind (suc n) (omega arith) few e
+
+tens_behind : (n : ℕ) → n < 1000 → n % 10 ≡ 0 → Fraction n
+tens_behind n few e = ⊎_elim (λ h. two_behind n few h e) (λ h. hundreds_behind n few (omega arith)) (cases_lt 0 (n % 100))
+
 behind : (n : ℕ) → n < 1000 → Fraction n
-behind n few = ⊎_elim (λ a. three_behind n few a) (λ a. ⊎_elim (λ b. two_behind n few b (omega arith)) (λ b. ⊎_elim (λ c. one_behind n c few (omega arith)) (λ c. (let P : ℕ → Type 0 = Fraction in let z : n ≡ 0 = omega arith in subst P (sym z) none_behind)) (cases_lt 0 n)) (cases_lt 0 (n % 100))) (cases_lt 0 (n % 10))
+behind n few = ⊎_elim (λ h. three_behind n few h) (λ h. tens_behind n few (omega arith)) (cases_lt 0 (n % 10))
 
 sign_behind : (um : ℤ) → Sign
 sign_behind (pos n) = absent
