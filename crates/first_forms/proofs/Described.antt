@@ -1,5 +1,7 @@
 -- The reading of the six lines, and the sizes that they state.
-use Rattle.std.proofs.Common.{◌≡◌, ℕ, List, [], ◌∷◌, ◌++◌, length, cond, eqb, Option, Some, None, codes, decimal, IfNone, refl, sym, ap, subst, ◌∙◌, arith}
+use Rattle.std.proofs.Common.{◌≡◌, ℕ, ◌*◌, ◌/◌, ◌<◌, ◌≤◌, List, [], ◌∷◌, ◌++◌, length, cond, eqb, Option, Some, None, codes, decimal, IfNone, refl, sym, ap, subst, ◌∙◌, arith}
+use Rattle.std.proofs.Math.Nat.{mul-div_cancel}
+use Rattle.std.proofs.lemmas.Int.{ints}
 use Rattle.std.proofs.lemmas.Bool.Decides.{nat_tests}
 use Rattle.std.proofs.lemmas.List.{append-nil, nil_from_length}
 use Rattle.std.specs.Option.{option_map}
@@ -89,3 +91,28 @@ pub is_printer : (bytes : List ℕ) (n : Numbers) (s : Sizes) (d : Description) 
 is_printer bytes n s d is states e =
     let t = numbers_takes bytes n is in
     record { numbers = n; near = t.near; text = t.text; sizes = s; states = states; is = e }
+
+-- ---- bytes describe one printer only
+same_count : (length grain a b : ℕ) → 1 ≤ grain → length ≡ a * grain → length ≡ b * grain → a ≡ b
+same_count length grain a b some e f =
+    let g : 0 < grain = omega (arith, some) in
+    sym (mul-div_cancel a g) ∙ ap (λ n. n / grain) (sym e ∙ f) ∙ mul-div_cancel b g
+
+is_made : (s : Sizes) (grain width depth step margin grid : ℕ) → s.grain ≡ grain → s.width ≡ width → s.depth ≡ depth → s.step ≡ step → s.margin ≡ margin → s.grid ≡ grid
+    → record { grain = grain; width = width; depth = depth; step = step; margin = margin; grid = grid } ≡ s
+is_made s grain width depth step margin grid a b c d e f = rw (← a, ← b, ← c, ← d, ← e, ← f) refl
+
+sizes_are : (s t : Sizes) → s.grain ≡ t.grain → s.width ≡ t.width → s.depth ≡ t.depth → s.step ≡ t.step → s.margin ≡ t.margin → s.grid ≡ t.grid → s ≡ t
+sizes_are s t a b c d e f = sym (is_made s t.grain t.width t.depth t.step t.margin t.grid a b c d e f)
+
+one_sizes : (n : Numbers) (s t : Sizes) → States n s → States n t → s ≡ t
+one_sizes n s t p q =
+    let some : 1 ≤ n.grain = omega (arith, ints, p.grain, p.ranged.grain_low) in
+    sizes_are s t (p.grain ∙ sym q.grain) (same_count n.width n.grain s.width t.width some p.width q.width) (same_count n.depth n.grain s.depth t.depth some p.depth q.depth) (p.step ∙ sym q.step) (same_count n.margin n.grain s.margin t.margin some p.margin q.margin) (p.grid ∙ sym q.grid)
+
+pub one_description : (bytes : List ℕ) (d e : Description) → PrinterOf bytes d → PrinterOf bytes e → d ≡ e
+one_description bytes d e p q =
+    let read : Some p.numbers ≡ Some q.numbers = sym (numbers_again p.numbers p.near) ∙ ap numbers_at (sym p.text ∙ q.text) ∙ numbers_again q.numbers q.near in
+    let same : p.numbers ≡ q.numbers = cc in
+    let states : States q.numbers p.sizes = subst (λ n. States n p.sizes) same p.states in
+    p.is ∙ ap description_with (one_sizes q.numbers p.sizes q.sizes states q.states) ∙ sym q.is

@@ -203,3 +203,14 @@ is_last bytes name rest rest' a b e = literal_takes (codes "endsolid ") bytes re
 
 pub last_again : (bytes name : List ℕ) → bytes ≡ last_line name → literal_at (codes "endsolid ") bytes ≡ Some (name ++ codes "\n")
 last_again bytes name e = ap (literal_at (codes "endsolid ")) e ∙ literal_again (codes "endsolid ") (name ++ codes "\n")
+
+-- ---- bytes are the text of one mesh only
+pub one_mesh : (bytes : List ℕ) (fs gs : List Facet) → MeshOf bytes fs → MeshOf bytes gs → fs ≡ gs
+one_mesh bytes fs gs m n =
+    let rest = facets_text m.millimetres ++ last_line m.name in
+    let read = ap first_line_at m.text ∙ first_line_again m.name rest m.named in
+    let all : ReadAllFacets rest fs (last_line m.name) = record {
+      read = record { done = m.millimetres; text = refl; triangles = m.triangles; few = m.few; are = m.is };
+      ended = last_line_no_facet m.name;
+    } in
+    m.is ∙ ap (map in_micrometres) (sym (ended bytes m.name rest (last_line m.name) fs gs read all n).same) ∙ sym n.is

@@ -1,7 +1,7 @@
-ghost use Rattle.std.specs.Prelude.{◌≡◌, ◌≤◌, ◌*◌, ◌∷◌, [], ℕ, pos, IfOk, IsErrOf, IfSome, IfNone};
+ghost use Rattle.std.specs.Prelude.{◌≡◌, ◌≤◌, ◌*◌, ◌∷◌, [], List, ℕ, pos, IfOk, IsErrOf, IfSome, IfNone};
 ghost use Rattle.std.specs.Option.{option_map};
 ghost use Rattle.seq_model.specs.Parts.{tip};
-ghost use Rattle.seq_model.specs.Scenes.{description_of};
+ghost use Rattle.seq_model.specs.Scenes.{Description, description_of};
 ghost use Rattle.first_forms.specs.Descriptions.{States, NoSizes, PrinterOf, IsNoPrinter, description_with};
 ghost use Rattle.first_forms.specs.Readers.{number_after, numbers_at};
 ghost use Rattle.first_forms.specs.declared.description.Numbers.{Numbers};
@@ -167,3 +167,8 @@ pub fn read_description(alloc: Global, bytes: &[u8]) -> Result<Printer, Unread>
     };
     Ok(printer_with(&sizes, parts))
 }
+
+/// No bytes describe two printers.
+pub fn one_description()
+    ensures { (bytes : List ℕ) (d e : Description) → PrinterOf bytes d → PrinterOf bytes e → d ≡ e }
+{}

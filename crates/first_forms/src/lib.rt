@@ -11,8 +11,8 @@
 mod description;
 mod mesh;
 
-pub use description::read_description;
-pub use mesh::read_mesh;
+pub use description::{one_description, read_description};
+pub use mesh::{one_mesh, read_mesh};
 
 /// Why a file isn't read: it is of another form, or memory is wanting.
 #[derive(Clone, Copy, Debug, PartialEq, Eq)]

@@ -1,4 +1,4 @@
-ghost use Rattle.std.specs.Prelude.{◌≡◌, ◌≤◌, ◌<◌, ◌↔◌, ◌∷◌, [], ℤ, List, length, IfOk, IsErrOf, IsTrue, IfSome, map, unsigned_abs, All};
+ghost use Rattle.std.specs.Prelude.{◌≡◌, ◌≤◌, ◌<◌, ◌↔◌, ◌∷◌, [], ℕ, List, length, IfOk, IsErrOf, IsTrue, IfSome, map, unsigned_abs, All};
 ghost use Rattle.std.specs.Option.{option_map};
 ghost use Rattle.seq_model.specs.declared.mesh.Facet.{Facet};
 ghost use Rattle.first_forms.specs.Meshes.{MeshOf, IsNoMesh, last_line, AreNear, IsNear, HasThreeCorners, IsTriangle, in_micrometres, point_in_micrometres};
@@ -158,6 +158,7 @@ fn is_last_line(bytes: &[u8], name: &[u8]) -> bool
 /// The mesh whose plain text the bytes are, in the first form. No facet is dropped.
 pub fn read_mesh(alloc: Global, bytes: &[u8]) -> Result<Mesh, Unread>
     ensures read { IfOk result (λ mesh. MeshOf bytes.now mesh.facets) }
+    ensures some { IfOk result (λ mesh. 0 < length mesh.facets) }
     ensures none_dropped { IfOk result (λ mesh. mesh.dropped ≡ 0) }
     ensures not_yet { IsErrOf result Unread.NotYet → IsNoMesh bytes.now }
 {
@@ -176,3 +177,8 @@ pub fn read_mesh(alloc: Global, bytes: &[u8]) -> Result<Mesh, Unread>
         dropped: 0,
     })
 }
+
+/// No bytes are the text of two meshes.
+pub fn one_mesh()
+    ensures { (bytes : List ℕ) (fs gs : List Facet) → MeshOf bytes fs → MeshOf bytes gs → fs ≡ gs }
+{}

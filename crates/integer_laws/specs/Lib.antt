@@ -2,3 +2,10 @@ pub mod Ring
 pub mod Order
 pub mod Quotients
 pub mod Divisors
+pub mod Steps
+pub mod Members
+pub mod Vectors
+pub mod Weights
+pub mod Greatest
+pub mod InPlace
+pub mod Examples

@@ -4,10 +4,14 @@
 --   Inner S q            q is a mean of all members of S, each with a weight of at least 1
 --   Within S q           q is a mean of members of S: weights of at least 0, not all 0
 --
+-- Weights are whole numbers, one for each member: `AreWeights least S w` says that, and that each is at least `least`;
+-- `weigh f S w` is the sum of the weights times the values of f, and `total S w` the sum of the weights.
+--
 -- Inner is the textbook's relative interior of the convex hull of S, and Within is the hull.
 use Rattle.std.specs.Prelude.{ℤ, pos, ◌+ℤ◌, ◌-ℤ◌, ◌*ℤ◌, ◌≤ℤ◌, ◌≡◌, List, [], ◌∷◌}
 use Rattle.std.specs.List.{flat_map}
 use Rattle.integer_laws.specs.Quotients.{floor, ceil}
+use Rattle.integer_laws.specs.Weights.{AreWeights, weigh, total}
 use Rattle.seq_model.specs.declared.printer.Spot.{Spot}
 use Rattle.seq_model.specs.Points.{Point, IsPoint}
 
@@ -32,31 +36,14 @@ four_spots grain margin p =
 abbrev pub spots : ℤ → ℤ → List Point → List Spot
 spots grain margin points = flat_map (four_spots grain margin) points
 
--- the members' values times their weights, added up
-abbrev pub weigh : (Spot → ℤ) → List Spot → List ℤ → ℤ
-weigh value [] weights = pos 0
-weigh value (s ∷ S) [] = pos 0
-weigh value (s ∷ S) (w ∷ weights) = w *ℤ value s +ℤ weigh value S weights
-
--- the sum of the weights
-abbrev pub total : List Spot → List ℤ → ℤ
-total S weights = weigh (λ s. pos 1) S weights
-
--- one weight for each member, each at least this number
-abbrev pub AreWeights : ℤ → List Spot → List ℤ → Type 0
-AreWeights at_least [] [] = Unit {0}
-AreWeights at_least [] (w ∷ weights) = ⊥
-AreWeights at_least (s ∷ S) [] = ⊥
-AreWeights at_least (s ∷ S) (w ∷ weights) = (at_least ≤ℤ w) × AreWeights at_least S weights
-
 -- q is the mean of the members by weights of at least this number, not all 0
-pub record IsMean (at_least : ℤ) (S : List Spot) (q : Point) : Type 0 where
+pub record IsMean (least : ℤ) (S : List Spot) (q : Point) : Type 0 where
   pub point : IsPoint q
-  pub weights : List ℤ
-  pub are : AreWeights at_least S weights
-  pub some : pos 1 ≤ℤ total S weights
-  pub x : q.d *ℤ weigh (λ s. s.x) S weights ≡ q.x *ℤ total S weights
-  pub y : q.d *ℤ weigh (λ s. s.y) S weights ≡ q.y *ℤ total S weights
+  pub w : List ℤ
+  pub weights : AreWeights least S w
+  pub some : pos 1 ≤ℤ total S w
+  pub x : q.d *ℤ weigh (λ s. s.x) S w ≡ q.x *ℤ total S w
+  pub y : q.d *ℤ weigh (λ s. s.y) S w ≡ q.y *ℤ total S w
 
 abbrev pub Inner : List Spot → Point → Type 0
 Inner S q = IsMean (pos 1) S q
