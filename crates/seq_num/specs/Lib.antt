@@ -1,4 +1,3 @@
-pub mod Division
 pub mod Nearest
 pub mod Spelling
 pub mod Reading
