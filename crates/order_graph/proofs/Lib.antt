@@ -1,0 +1,3 @@
+pub mod LeadingLaws
+pub mod Lists
+pub mod WayLaws
