@@ -7,15 +7,8 @@ use Rattle.std.proofs.lemmas.List.Elements.{All-contains}
 use Rattle.std.proofs.lemmas.List.Sums.{sum_by-set}
 use Rattle.order_graph.specs.Orders.{IsOrdered, Leads, Leads.one, Leads.more, EachNext, IsWay, ClosesCycle}
 use Rattle.order_graph.specs.Walks.{IsNext, IsWalk, IsRing, IsKnown, IsClosed, IsOpen, LeadsOn}
+use Rattle.order_graph.proofs.NextLaws.{empty, no_next, next_cases}
 use Rattle.order_graph.proofs.WayLaws.{EachNext-weaker, carried}
-
-empty : (n k : ℕ) → get_or {A = Option ℕ} (replicate n None) k None ≡ None
-empty zero k = refl
-empty (suc n) zero = refl
-empty (suc n) (suc k) = empty n k
-
-no_next : (n a b : ℕ) → IsNext (replicate n None) a b → ⊥
-no_next n a b is = let none = empty n a in cc
 
 -- at the start none has a next object
 pub none_known : (orders : List (ℕ × ℕ)) (goal n : ℕ) → LeadsOn orders goal (replicate n None)
@@ -55,13 +48,6 @@ raised_same rank i j k same = rw (eq-eqb k i same) refl
 raised_other : (rank : ℕ → ℕ) (i j k : ℕ) → k ≢ i → raised rank i j k ≡ rank k
 unfolding raised
 raised_other rank i j k apart = rw (ne_eqb k i apart) refl
-
--- the next objects after one more was set
-next_cases : (next : List (Option ℕ)) (i j a b : ℕ) → i < length next → IsNext (set next i (Some j)) a b → ((a ≡ i) × (b ≡ j)) ⊎ ((a ≢ i) × IsNext next a b)
-next_cases next i j a b within is = ⊎_elim
-    (λ same. let moved = ap (λ k. get_or (set next i (Some j)) k None) same ∙ get_or-set_same next i (Some j) None within in inl (same, cc))
-    (λ apart. inr (apart, sym (get_or-set_other next i a (Some j) None apart) ∙ is))
-    (cases_eq a i)
 
 still_known : (next : List (Option ℕ)) (goal i j k : ℕ) → i < length next → IsKnown next goal k → IsKnown (set next i (Some j)) goal k
 still_known next goal i j k within known apart = ⊎_elim

@@ -1,3 +1,5 @@
 pub mod LeadingLaws
 pub mod Lists
+pub mod NextLaws
+pub mod PlacingLaws
 pub mod WayLaws

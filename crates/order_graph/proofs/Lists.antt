@@ -15,7 +15,7 @@ use Rattle.std.proofs.lemmas.Map.Views.{Contains-from_any, list_any-from_Contain
 abbrev pub IsOnce : List ℕ → Type 0
 IsOnce xs = AllPairs (λ a b. a ≢ b) xs
 
-apart : (xs : List ℕ) (x : ℕ) → (Contains xs x → ⊥) → All (λ k. x ≢ k) xs
+pub apart : (xs : List ℕ) (x : ℕ) → (Contains xs x → ⊥) → All (λ k. x ≢ k) xs
 apart xs x new k d within = λ same. new (k, within, get_or_default xs k x d within ∙ sym same)
 
 -- one more number fits where it is new

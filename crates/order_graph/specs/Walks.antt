@@ -7,8 +7,9 @@
 --   IsClosed orders next goal what is ordered before a known object is known
 --   IsOpen orders next goal o an order for which that fails
 --   LeadsOn orders goal next  each next object is ordered after and known, and nobody comes round
-use Rattle.std.specs.Prelude.{◌≡◌, ◌≢◌, ℕ, ◌<◌, List, [], ◌∷◌, ◌++◌, slice_index, slice_index_or, Option, Some, None, IsSome, All, Contains}
-use Rattle.order_graph.specs.Orders.{IsOrdered, EachNext}
+--   IsNextUnplaced orders placed next  each next object is ordered after and not placed; who has none is before no such object
+use Rattle.std.specs.Prelude.{◌≡◌, ◌≢◌, ℕ, ◌<◌, List, [], ◌∷◌, ◌++◌, slice_index, slice_index_or, Option, Some, None, IsSome, Bool, true, false, length, All, AllPairs, Contains}
+use Rattle.order_graph.specs.Orders.{IsOrdered, EachNext, StandsBefore}
 
 abbrev pub IsNext : List (Option ℕ) → ℕ → ℕ → Type 0
 IsNext next a b = slice_index_or next a None ≡ Some b
@@ -45,3 +46,18 @@ pub record LeadsOn (orders : List (ℕ × ℕ)) (goal : ℕ) (next : List (Optio
   pub order : (a b : ℕ) → IsNext next a b → IsOrdered orders a b
   pub known : (a b : ℕ) → IsNext next a b → IsKnown next goal b
   pub nearer : (a b : ℕ) → IsNext next a b → rank b < rank a
+
+pub record IsNextUnplaced (orders : List (ℕ × ℕ)) (placed : List Bool) (next : List (Option ℕ)) : Type 0 where
+  pub step : (a b : ℕ) → IsNext next a b → IsOrdered orders a b × (slice_index_or placed b false ≡ false)
+  pub some : (a b : ℕ) → IsOrdered orders a b → slice_index_or placed b false ≡ false → IsSome (slice_index_or next a None)
+
+pub record IsLast (orders : List (ℕ × ℕ)) (placed : List Bool) (k : ℕ) : Type 0 where
+  pub within : k < length placed
+  pub unplaced : slice_index_or placed k false ≡ false
+  pub after_it : (b : ℕ) → IsOrdered orders k b → slice_index_or placed b false ≡ true
+
+pub record IsPlacing (orders : List (ℕ × ℕ)) (placed : List Bool) (objects : List ℕ) : Type 0 where
+  pub marked : All (λ k. (k < length placed) × (slice_index_or placed k false ≡ true)) objects
+  pub listed : (k : ℕ) → k < length placed → slice_index_or placed k false ≡ true → Contains objects k
+  pub once : AllPairs (λ a b. a ≢ b) objects
+  pub kept : (a b : ℕ) → IsOrdered orders a b → Contains objects a → StandsBefore objects a b
