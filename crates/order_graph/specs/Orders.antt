@@ -1,6 +1,7 @@
 -- Orders among objects, which are numbered from 0. An order is a pair: (a, b) says that object a comes before object b.
 --
 --   Graph                           so many objects, and the orders held among them, newest last
+--   IsGraph n held                  what each graph keeps: at most 16 objects, orders among them, and nobody leads to itself
 --   AreAmong n orders               each order is between two different objects below n
 --   IsOrdered orders a b            a comes before b by one of the orders
 --   Leads orders a b                a comes before b by one order, or by several over other objects
@@ -12,7 +13,7 @@
 --   IsOrder n orders objects        all n objects, each once, and the first object of each order stands before its second
 --   HasCycle orders                 there is such a cycle
 --   HasOrder n orders               there is such an order
-use Rattle.std.specs.Prelude.{◌≡◌, ◌≢◌, ◌↔◌, ℕ, ◌<◌, List, [], ◌∷◌, ◌++◌, length, slice_index, All, AllPairs, Contains}
+use Rattle.std.specs.Prelude.{◌≡◌, ◌≢◌, ◌↔◌, ℕ, ◌<◌, ◌≤◌, List, [], ◌∷◌, ◌++◌, length, slice_index, All, AllPairs, Contains}
 
 pub record Graph : Type 0 where
   pub objects : ℕ
@@ -28,6 +29,11 @@ IsOrdered orders a b = Contains orders (a, b)
 pub data Leads (orders : List (ℕ × ℕ)) : ℕ → ℕ → Type 0 where
   one : (a b : ℕ) → IsOrdered orders a b → Leads orders a b
   more : (a b c : ℕ) → IsOrdered orders a b → Leads orders b c → Leads orders a c
+
+pub record IsGraph (n : ℕ) (held : List (ℕ × ℕ)) : Type 0 where
+  pub few : n ≤ 16
+  pub among : AreAmong n held
+  pub acyclic : (a : ℕ) → Leads held a a → ⊥
 
 abbrev pub EachNext : (ℕ → ℕ → Type 0) → List ℕ → Type 0
 EachNext R [] = Unit {0}

@@ -1,9 +1,12 @@
-ghost use Rattle.std.specs.Prelude.{◌≡◌, ◌≢◌, ℕ, ◌-◌, ◌<◌, ◌≤◌, List, [], ◌∷◌, ◌++◌, length, take};
-ghost use Rattle.order_graph.specs.Orders.{Graph, AreAmong};
+ghost use Rattle.std.specs.Prelude.{◌≡◌, ◌≢◌, ◌↔◌, ℕ, ◌-◌, ◌<◌, ◌≤◌, List, [], ◌∷◌, ◌++◌, length, take, IsOk, IsErr, IfOk, IfErr, OnOk, OnErr};
+ghost use Rattle.order_graph.specs.Orders.{Graph, IsGraph, AreAmong, Leads, ClosesCycle, IsCycle, HasCycle, IsOrder, HasOrder};
 
+use crate::answers::{Cycle, Order};
+use crate::leading::cycle_closed_by;
+use crate::placing::order_of;
 use std::marker::Model;
 
-/// Orders held among some objects.
+/// Orders held among at most 16 objects, at most 256 of them. They never have a cycle.
 #[derive(Drop)]
 pub struct OrderGraph {
     n: u32,
@@ -16,7 +19,7 @@ impl Model for OrderGraph {
 
     ghost view = { λ g. record { objects = g.n; held = take g.len g.held } };
 
-    ghost invariant = { λ g. (g.n ≤ 16) × (g.len ≤ 256) × AreAmong g.n (take g.len g.held) };
+    ghost invariant = { λ g. (g.len ≤ 256) × IsGraph g.n (take g.len g.held) };
 }
 
 impl OrderGraph {
@@ -32,10 +35,45 @@ impl OrderGraph {
         }
     }
 
+    /// Holds the order of `i` before `j`, unless it would close a cycle.
+    pub fn add(&mut self, i: u32, j: u32) -> Result<(), Cycle>
+        requires i { i < self.old.objects }
+        requires j { j < self.old.objects }
+        requires apart { i ≢ j }
+        requires room { length self.old.held < 256 }
+        ensures held { OnOk result (self.new ≡ record self.old { held = self.old.held ++ (i, j) ∷ [] }) }
+
+        ensures refused { IsErr result ↔ Leads self.old.held j i }
+        ensures cycle { IfErr result (ClosesCycle self.old.held i j) }
+        ensures unchanged { OnErr result (self.new ≡ self.old) }
+    {
+        if let Some(cycle) = cycle_closed_by(&self.held[..self.len], i, j) {
+            return Err(cycle);
+        }
+        self.held[self.len] = (i, j);
+        self.len += 1;
+        Ok(())
+    }
+
+    /// Takes away the order that was held last.
     pub fn undo(&mut self)
         requires { 0 < length self.old.held }
         ensures { self.new ≡ record self.old { held = take (length self.old.held - 1) self.old.held } }
     {
         self.len -= 1;
+    }
+
+    /// Puts all objects in an order that keeps the held and the forced ones, or finds a cycle of these.
+    pub fn complete(&self, forced: &[(u32, u32)]) -> Result<Order, Cycle>
+        requires { AreAmong self.now.objects forced.now }
+        ensures order { IfOk result (IsOrder self.now.objects (self.now.held ++ forced.now)) }
+        ensures cycle { IfErr result (IsCycle (self.now.held ++ forced.now)) }
+        ensures order_exactly { IsOk result ↔ HasOrder self.now.objects (self.now.held ++ forced.now) }
+        ensures cycle_exactly { IsErr result ↔ HasCycle (self.now.held ++ forced.now) }
+
+        // So each cycle has a forced order.
+        ensures acyclic { HasCycle self.now.held → ⊥ }
+    {
+        order_of(self.n, &self.held[..self.len], forced)
     }
 }
