@@ -1,11 +1,11 @@
 -- The next objects towards a goal, as they become known one by one.
-use Rattle.std.proofs.Common.{◌≡◌, ◌≢◌, ℕ, zero, suc, ◌+◌, ◌-◌, ◌<◌, Bool, true, false, cond, eqb, List, [], ◌∷◌, ◌++◌, length, get_or, set, take, drop, replicate, Option, Some, None, IsSome, count_by, All, Contains, ◌⊎◌, inl, inr, ⊎_elim, refl, sym, subst, ap, ap₂, ◌∙◌, arith, get_or-set_same, get_or-set_other}
+use Rattle.std.proofs.Common.{◌≡◌, ◌≢◌, ℕ, ◌+◌, ◌-◌, ◌<◌, cond, eqb, List, [], ◌∷◌, ◌++◌, length, get_or, set, take, drop, replicate, Option, Some, None, IsSome, count_by, ⊎_elim, refl, sym, subst, ap, ap₂, ◌∙◌, arith, get_or-set_same, get_or-set_other}
 use Rattle.std.specs.Prelude.{is_none}
 use Rattle.std.proofs.lemmas.Bool.{false≢true, cases_eq, eq-eqb, ne_eqb}
 use Rattle.std.proofs.lemmas.List.{length_push, drop_at, take_at}
 use Rattle.std.proofs.lemmas.List.Elements.{All-contains}
 use Rattle.std.proofs.lemmas.List.Sums.{sum_by-set}
-use Rattle.order_graph.specs.Orders.{IsOrdered, Leads, Leads.one, Leads.more, EachNext, IsWay, ClosesCycle}
+use Rattle.order_graph.specs.Orders.{IsOrdered, Leads, EachNext, ClosesCycle}
 use Rattle.order_graph.specs.Walks.{IsNext, IsWalk, IsRing, IsKnown, IsClosed, IsOpen, LeadsOn}
 use Rattle.order_graph.proofs.NextLaws.{empty, no_next, next_cases}
 use Rattle.order_graph.proofs.WayLaws.{EachNext-weaker, carried}

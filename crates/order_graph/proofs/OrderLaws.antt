@@ -1,10 +1,10 @@
 -- An order that keeps all orders and a cycle of them exclude each other; and a cycle that an order closes shows what leads where.
-use Rattle.std.proofs.Common.{◌≡◌, ◌≢◌, ℕ, ◌<◌, List, [], ◌∷◌, ◌++◌, length, get_or, take, drop, All, AllPairs, Contains, Result, Ok, Err, IsOk, IsErr, MatchResult, ◌↔◌, ◌⊎◌, inl, inr, ⊎_elim, refl, ap, sym, subst, ◌∙◌, arith}
+use Rattle.std.proofs.Common.{◌≡◌, ◌≢◌, ℕ, ◌<◌, List, [], ◌∷◌, ◌++◌, length, get_or, take, drop, Contains, Result, Ok, Err, IsOk, IsErr, IfOk, MatchResult, ◌↔◌, ◌⊎◌, inl, inr, ⊎_elim, refl, ap, sym, subst, ◌∙◌, arith}
 use Rattle.std.proofs.lemmas.Bool.{false≢true, cases_order}
 use Rattle.std.proofs.lemmas.List.{take-append-drop}
-use Rattle.std.proofs.lemmas.List.Elements.{All-contains, All-push, All-take, Contains-append_left, Contains-push_cases}
-use Rattle.order_graph.specs.Orders.{IsGraph, IsOrdered, Leads, Leads.one, Leads.more, IsWay, IsCycle, ClosesCycle, StandsBefore, IsOrder, HasCycle, HasOrder}
-use Rattle.order_graph.proofs.Lists.{IsOnce}
+use Rattle.std.proofs.lemmas.List.Elements.{All-contains, All-contains_itself, All-weaker, All-push, All-take, Contains-append_left, Contains-push_cases}
+use Rattle.order_graph.specs.Orders.{IsAmong, IsGraph, Leads, IsWay, IsCycle, ClosesCycle, StandsBefore, IsOrder, HasCycle, HasOrder}
+use Rattle.order_graph.proofs.Lists.{IsOnce, few, full}
 
 -- where no object stands twice, an object has one place
 one_place : (objects : List ℕ) (p q : ℕ) → IsOnce objects → p < length objects → q < length objects → get_or objects p 0 ≡ get_or objects q 0 → p ≡ q
@@ -69,13 +69,13 @@ leads_before orders i j (Leads.one a b order) = ⊎_elim
     (Contains-push_cases orders (i, j) (a, b) order)
 leads_before orders i j (Leads.more a k b order rest) = ⊎_elim
     (λ old. ⊎_elim
-      (λ leads. inl (Leads.more a k b old leads))
-      (λ through. inr (record { there = ⊎_elim (λ same. inr (subst (Leads orders a) same (Leads.one a k old))) (λ leads. inr (Leads.more a k i old leads)) through.there; on = through.on }))
-      (leads_before orders i j rest))
+    (λ leads. inl (Leads.more a k b old leads))
+    (λ through. inr (record { there = ⊎_elim (λ same. inr (subst (Leads orders a) same (Leads.one a k old))) (λ leads. inr (Leads.more a k i old leads)) through.there; on = through.on }))
+    (leads_before orders i j rest))
     (λ new. ⊎_elim
-      (λ leads. inr (record { there = inl (ap (λ o. o.0) (sym new)); on = inr (subst (λ x. Leads orders x b) (ap (λ o. o.1) (sym new)) leads) }))
-      (λ through. inr (record { there = inl (ap (λ o. o.0) (sym new)); on = through.on }))
-      (leads_before orders i j rest))
+    (λ leads. inr (record { there = inl (ap (λ o. o.0) (sym new)); on = inr (subst (λ x. Leads orders x b) (ap (λ o. o.1) (sym new)) leads) }))
+    (λ through. inr (record { there = inl (ap (λ o. o.0) (sym new)); on = through.on }))
+    (leads_before orders i j rest))
     (Contains-push_cases orders (i, j) (a, k) order)
 
 -- an order whose second object doesn't lead to its first closes no cycle
@@ -83,21 +83,21 @@ pub still_acyclic : (orders : List (ℕ × ℕ)) (i j : ℕ) → i ≢ j → (Le
 still_acyclic orders i j apart free acyclic a leads = ⊎_elim
     (λ old. acyclic a old)
     (λ through. ⊎_elim
-      (λ a_is_i. ⊎_elim
-        (λ j_is_a. apart (sym (j_is_a ∙ a_is_i)))
-        (λ on. free (subst (Leads orders j) a_is_i on))
-        through.on)
-      (λ there. ⊎_elim
-        (λ j_is_a. free (subst (λ k. Leads orders k i) (sym j_is_a) there))
-        (λ on. free (leads_trans orders on there))
-        through.on)
-      through.there)
+    (λ a_is_i. ⊎_elim
+    (λ j_is_a. apart (sym (j_is_a ∙ a_is_i)))
+    (λ on. free (subst (Leads orders j) a_is_i on))
+    through.on)
+    (λ there. ⊎_elim
+    (λ j_is_a. free (subst (λ k. Leads orders k i) (sym j_is_a) there))
+    (λ on. free (leads_trans orders on there))
+    through.on)
+    through.there)
     (leads_before orders i j leads)
 
 pub graph_more : (n : ℕ) (held : List (ℕ × ℕ)) (i j : ℕ) → IsGraph n held → i < n → j < n → i ≢ j → (Leads held j i → ⊥) → IsGraph n (held ++ (i, j) ∷ [])
 graph_more n held i j graph i_in j_in apart free = record {
   few = graph.few;
-  among = All-push (λ o. (o.0 < n) × (o.1 < n) × (o.0 ≢ o.1)) held (i, j) graph.among (i_in, j_in, apart);
+  among = All-push (IsAmong n) held (i, j) graph.among (i_in, j_in, apart);
   acyclic = still_acyclic held i j apart free graph.acyclic;
 }
 
@@ -108,7 +108,7 @@ leads_in_more orders others (Leads.more a k b order on) = Leads.more a k b (Cont
 pub graph_fewer : (n : ℕ) (held : List (ℕ × ℕ)) (k : ℕ) → IsGraph n held → IsGraph n (take k held)
 graph_fewer n held k graph = record {
   few = graph.few;
-  among = All-take (λ o. (o.0 < n) × (o.1 < n) × (o.0 ≢ o.1)) k held graph.among;
+  among = All-take (IsAmong n) k held graph.among;
   acyclic = λ a leads. graph.acyclic a (subst (λ orders. Leads orders a a) (take-append-drop k held) (leads_in_more (take k held) (drop k held) leads));
 }
 
@@ -116,3 +116,15 @@ pub graph_no_cycle : (n : ℕ) (held : List (ℕ × ℕ)) → IsGraph n held →
 graph_no_cycle n held graph [] cycle = cycle
 graph_no_cycle n held graph (a ∷ []) cycle = cycle
 graph_no_cycle n held graph (a ∷ b ∷ rest) cycle = graph.acyclic a (leads_along held (b ∷ rest) a a cycle)
+
+-- an order of n objects is n long
+length-order : (n : ℕ) (orders : List (ℕ × ℕ)) (objects : List ℕ) → IsOrder n orders objects → length objects ≡ n
+length-order n orders objects order =
+    let below = All-weaker (Contains objects) (λ k. k < n) (λ k has. (order.all k).0 has) objects (All-contains_itself objects) in
+    let at_most = few n objects order.once below in
+    let at_least = full n objects (λ k is_below. (order.all k).1 is_below) in
+    omega arith
+
+pub order_whole : (n : ℕ) (orders : List (ℕ × ℕ)) (r : Result (List ℕ) (List ℕ)) → MatchResult r (IsOrder n orders) (IsCycle orders) → IfOk r (λ order. length order ≡ n)
+order_whole n orders (Ok objects) order = length-order n orders objects order
+order_whole n orders (Err objects) cycle = tt

@@ -1,14 +1,14 @@
 -- How the places of an order are filled, and what stands in the way.
-use Rattle.std.proofs.Common.{◌≡◌, ◌≢◌, ℕ, zero, suc, ◌+◌, ◌-◌, ◌<◌, ◌≤◌, Bool, true, false, List, [], ◌∷◌, ◌++◌, length, get_or, set, take, drop, replicate, Option, Some, None, IsSome, All, AllPairs, Contains, ◌⊎◌, inl, inr, ⊎_elim, refl, sym, subst, ap, ap₂, ◌∙◌, get_or-set_same, get_or-set_other, length-set, length-take, length-drop, arith}
+use Rattle.std.proofs.Common.{◌≡◌, ◌≢◌, ℕ, zero, suc, ◌+◌, ◌-◌, ◌<◌, ◌≤◌, Bool, true, false, List, [], ◌∷◌, ◌++◌, length, get_or, set, take, drop, replicate, Option, Some, None, IsSome, All, Contains, ◌⊎◌, inl, inr, ⊎_elim, refl, sym, subst, ap, ap₂, ◌∙◌, get_or-set_same, get_or-set_other, length-set, length-take, length-drop, arith}
 use Rattle.std.proofs.lemmas.Bool.{both_ways, cases_eq, false≢true, true_from_ne_false}
 use Rattle.std.proofs.lemmas.List.{length_push, get_or_at, get_or_default, get_or-take, drop-set-lt, drop_more}
 use Rattle.std.proofs.lemmas.Slice.{between_is}
 use Rattle.std.proofs.lemmas.List.Elements.{Contains-get_or, All-append, All-contains, All-cons, All-weaker, Contains-append_left, Contains-push, Contains-push_cases}
 use Rattle.std.proofs.lemmas.List.Kept.{AllPairs-cons}
-use Rattle.order_graph.specs.Orders.{AreAmong, IsOrdered, EachNext, IsCycle, IsOrder, StandsBefore}
+use Rattle.order_graph.specs.Orders.{IsAmong, AreAmong, IsOrdered, EachNext, IsCycle, IsOrder, StandsBefore}
 use Rattle.order_graph.specs.Walks.{IsNext, IsNextBelow, IsWalk, IsRing, IsNextUnplaced, IsLast, IsPlacing}
 use Rattle.order_graph.proofs.Lists.{apart, room}
-use Rattle.order_graph.proofs.NextLaws.{empty, no_next, next_cases}
+use Rattle.order_graph.proofs.NextLaws.{no_next, next_cases}
 use Rattle.order_graph.proofs.WayLaws.{EachNext-weaker, carried}
 
 nothing_ordered : (a b : ℕ) → IsOrdered [] a b → ⊥
@@ -42,17 +42,17 @@ noted_more orders placed next o within is_free noted = record {
   some = λ a b order free. ⊎_elim
       (λ same. subst IsSome (sym (ap (λ k. get_or (set next o.0 (Some o.1)) k None) same ∙ get_or-set_same next o.0 (Some o.1) None within)) refl)
       (λ apart. subst IsSome (sym (get_or-set_other next o.0 a (Some o.1) None apart)) (⊎_elim
-        (λ old. noted.some a b old free)
-        (λ new. absurd (apart (ap (λ p. p.0) (sym new))))
-        (Contains-push_cases orders o (a, b) order)))
+      (λ old. noted.some a b old free)
+      (λ new. absurd (apart (ap (λ p. p.0) (sym new))))
+      (Contains-push_cases orders o (a, b) order)))
       (cases_eq a o.0);
 }
 
 pub all_among : (n : ℕ) (held forced : List (ℕ × ℕ)) → AreAmong n held → AreAmong n forced → AreAmong n (held ++ forced)
-all_among n held forced = All-append (λ o. (o.0 < n) × (o.1 < n) × (o.0 ≢ o.1)) held forced
+all_among n held forced = All-append (IsAmong n) held forced
 
 ordered_among : (n : ℕ) (orders : List (ℕ × ℕ)) → AreAmong n orders → (a b : ℕ) → IsOrdered orders a b → (a < n) × (b < n) × (a ≢ b)
-ordered_among n orders among a b order = All-contains (λ o. (o.0 < n) × (o.1 < n) × (o.0 ≢ o.1)) orders (a, b) among order
+ordered_among n orders among a b order = All-contains (IsAmong n) orders (a, b) among order
 
 pub next_below : (n m : ℕ) (orders : List (ℕ × ℕ)) (placed : List Bool) (next : List (Option ℕ)) → n ≤ m → AreAmong n orders → IsNextUnplaced orders placed next → IsNextBelow m next
 next_below n m orders placed next few among noted a b is = let below = ordered_among n orders among a b (noted.step a b is).0 in omega arith
@@ -79,19 +79,6 @@ last_from_walk orders placed next start way among noted within unplaced walk =
       after_it = λ b order. true_from_ne_false _ (λ free. false≢true (subst IsSome walk.ends (noted.some walk.last b order free)));
     })
 
-unmarked : (n k : ℕ) → get_or (replicate n false) k false ≡ false
-unmarked zero k = refl
-unmarked (suc n) zero = refl
-unmarked (suc n) (suc k) = unmarked n k
-
-pub placing_none : (orders : List (ℕ × ℕ)) (n : ℕ) → IsPlacing orders (replicate n false) []
-placing_none orders n = record {
-  marked = λ k d within. absurd (omega arith);
-  listed = λ k below is. absurd (both_ways _ (unmarked n k) is);
-  once = λ i j d before within. absurd (omega arith);
-  kept = λ a b order has. absurd (omega (arith, has.1));
-}
-
 IsMarked : List Bool → ℕ → Type 0
 IsMarked placed k = (k < length placed) × (get_or placed k false ≡ true)
 
@@ -100,9 +87,9 @@ unfolding IsMarked
 still_marked placed k j within marked = (
   subst (λ n. j < n) (sym (length-set placed k true)) marked.0,
   ⊎_elim
-  (λ same. ap (λ i. get_or (set placed k true) i false) same ∙ get_or-set_same placed k true false within)
-  (λ other. get_or-set_other placed k j true false other ∙ marked.1)
-  (cases_eq j k),
+      (λ same. ap (λ i. get_or (set placed k true) i false) same ∙ get_or-set_same placed k true false within)
+      (λ other. get_or-set_other placed k j true false other ∙ marked.1)
+      (cases_eq j k),
 )
 
 -- what stands in a longer list is its first element, or stands in the rest

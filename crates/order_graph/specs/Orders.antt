@@ -2,7 +2,8 @@
 --
 --   Graph                           so many objects, and the orders held among them, newest last
 --   IsGraph n held                  what each graph keeps: at most 16 objects, orders among them, and nobody leads to itself
---   AreAmong n orders               each order is between two different objects below n
+--   IsAmong n o                     the order is between two different objects below n
+--   AreAmong n orders               each order is
 --   IsOrdered orders a b            a comes before b by one of the orders
 --   Leads orders a b                a comes before b by one order, or by several over other objects
 --   EachNext R objects              R holds from each object of the list to the next one
@@ -19,8 +20,11 @@ pub record Graph : Type 0 where
   pub objects : ℕ
   pub held : List (ℕ × ℕ)
 
+abbrev pub IsAmong : ℕ → ℕ × ℕ → Type 0
+IsAmong n o = (o.0 < n) × (o.1 < n) × (o.0 ≢ o.1)
+
 abbrev pub AreAmong : ℕ → List (ℕ × ℕ) → Type 0
-AreAmong n orders = All (λ o. (o.0 < n) × (o.1 < n) × (o.0 ≢ o.1)) orders
+AreAmong n orders = All (IsAmong n) orders
 
 abbrev pub IsOrdered : List (ℕ × ℕ) → ℕ → ℕ → Type 0
 IsOrdered orders a b = Contains orders (a, b)

@@ -6,7 +6,7 @@ use crate::leading::cycle_closed_by;
 use crate::placing::order_of;
 use std::marker::Model;
 
-/// Orders held among at most 16 objects, at most 256 of them. They never have a cycle.
+/// Orders held among 1 to 16 objects, at most 256 of them.
 #[derive(Drop)]
 pub struct OrderGraph {
     n: u32,
@@ -35,14 +35,17 @@ impl OrderGraph {
         }
     }
 
-    /// Holds the order of `i` before `j`, unless it would close a cycle.
+    /// Holds that `i` comes before `j`, unless `j` leads to `i` already.
+    ///
+    /// Reads the held orders once for each object that leads to `i`, and once more.
     pub fn add(&mut self, i: u32, j: u32) -> Result<(), Cycle>
-        requires i { i < self.old.objects }
-        requires j { j < self.old.objects }
+        requires first { i < self.old.objects }
+        requires second { j < self.old.objects }
         requires apart { i ≢ j }
         requires room { length self.old.held < 256 }
         ensures held { OnOk result (self.new ≡ record self.old { held = self.old.held ++ (i, j) ∷ [] }) }
 
+        // Of several cycles any one may be answered.
         ensures refused { IsErr result ↔ Leads self.old.held j i }
         ensures cycle { IfErr result (ClosesCycle self.old.held i j) }
         ensures unchanged { OnErr result (self.new ≡ self.old) }
@@ -63,17 +66,36 @@ impl OrderGraph {
         self.len -= 1;
     }
 
-    /// Puts all objects in an order that keeps the held and the forced ones, or finds a cycle of these.
+    /// Puts all objects in an order that keeps the held orders and the forced ones, or finds a cycle of these.
+    ///
+    /// Reads the held and the forced orders once for each object.
     pub fn complete(&self, forced: &[(u32, u32)]) -> Result<Order, Cycle>
         requires { AreAmong self.now.objects forced.now }
         ensures order { IfOk result (IsOrder self.now.objects (self.now.held ++ forced.now)) }
         ensures cycle { IfErr result (IsCycle (self.now.held ++ forced.now)) }
+
+        // The answer isn't a matter of choice, though the order and the cycle may be.
         ensures order_exactly { IsOk result ↔ HasOrder self.now.objects (self.now.held ++ forced.now) }
         ensures cycle_exactly { IsErr result ↔ HasCycle (self.now.held ++ forced.now) }
 
-        // So each cycle has a forced order.
+        // The held orders have no cycle of their own.
         ensures acyclic { HasCycle self.now.held → ⊥ }
+        ensures whole { IfOk result (λ order. length order ≡ self.now.objects) }
     {
         order_of(self.n, &self.held[..self.len], forced)
+    }
+}
+
+#[cfg(test)]
+mod tests {
+    ghost use Rattle.std.specs.Prelude.{◌≡◌, ◌↔◌, ◌≤◌, length, IsTrue};
+    ghost use Rattle.order_graph.specs.Orders.{AreAmong};
+
+    use super::*;
+
+    fn are_among(n: u32, orders: &[(u32, u32)]) -> bool
+        ensures { IsTrue result ↔ AreAmong n orders.now }
+    {
+        orders.iter().all(|&(i, j)| i < n && j < n && i != j)
     }
 }

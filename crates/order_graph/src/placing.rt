@@ -22,7 +22,12 @@ fn next_unplaced(held: &[(u32, u32)], forced: &[(u32, u32)], placed: &[bool]) ->
 }
 
 /// An object that isn't placed and is ordered before placed ones alone, or else a cycle.
-fn last_unplaced(held: &[(u32, u32)], forced: &[(u32, u32)], placed: &[bool], start: u32) -> Result<u32, Cycle>
+fn last_unplaced(
+    held: &[(u32, u32)],
+    forced: &[(u32, u32)],
+    placed: &[bool],
+    start: u32,
+) -> Result<u32, Cycle>
     requires few { length placed.now ≤ 16 }
     requires held { AreAmong (length placed.now) held.now }
     requires forced { AreAmong (length placed.now) forced.now }

@@ -1,6 +1,5 @@
-use Rattle.std.proofs.Common.{rules, ◌≢◌, ◌<◌, ◌++◌, length, sym, subst}
-use Rattle.std.proofs.lemmas.List.Elements.{All-append}
-use Rattle.order_graph.specs.Orders.{AreAmong, IsCycle}
+use Rattle.std.proofs.Common.{rules, ◌++◌, length, sym, subst}
+use Rattle.order_graph.specs.Orders.{IsCycle}
 use Rattle.order_graph.specs.Walks.{IsLast}
 use Rattle.order_graph.proofs.PlacingLaws.{all_among, next_below, cycle_from_ring, last_from_walk}
 use Rattle.order_graph.proofs.placing.last_unplaced.Goals as goal

@@ -1,8 +1,9 @@
-use Rattle.std.proofs.Common.{arith, ◌≡◌, ◌≢◌, ℕ, ◌<◌, ◌++◌, length, get_or, map, refl, subst, ap, sym, ◌∙◌, length-set, All}
+use Rattle.std.proofs.Common.{arith, ◌≢◌, ◌<◌, ◌++◌, length, refl, subst, ap, ◌∙◌, length-set}
 use Rattle.std.proofs.lemmas.Iterator.{YieldsList-from_slice}
 use Rattle.std.proofs.lemmas.Iterator.Consumers.{YieldsList-at, YieldsList-from_chain, YieldsList-turn, YieldsList-end}
 use Rattle.std.proofs.lemmas.List.{map-append}
 use Rattle.std.proofs.lemmas.List.Elements.{All-append, All-get_or}
+use Rattle.order_graph.specs.Orders.{IsAmong}
 use Rattle.order_graph.specs.Walks.{IsNextUnplaced}
 use Rattle.order_graph.proofs.PlacingLaws.{none_noted, skipped, noted_more}
 use Rattle.order_graph.proofs.placing.next_unplaced.Goals as goal
@@ -24,8 +25,8 @@ loop-i-preserved-then-not-placed-j c =
     let road = YieldsList-at c.into_iter-i-iterator.ensures.into_iter_gives (YieldsList-from_chain (YieldsList-at chained.first (YieldsList-from_slice c.args.held.now c.iter.ensures.rest)) (YieldsList-from_slice c.args.forced.now chained.second.0) chained.first_done chained.second_done) in
     let turn = YieldsList-turn road c.loop-i.yielded _ c.loop-i.yielded_by _ _ c.in-Some.field-0 c.in-Some.is c.next.ensures.steps in
     let n = length c.args.placed.now in
-    let among = All-append (λ p. (p.0 < n) × (p.1 < n) × (p.0 ≢ p.1)) c.args.held.now c.args.forced.now c.requires.held c.requires.forced in
-    let below = All-get_or (λ p. (p.0 < n) × (p.1 < n) × (p.0 ≢ p.1)) orders (length c.loop-i.yielded) o turn.0 among in
+    let among = All-append (IsAmong n) c.args.held.now c.args.forced.now c.requires.held c.requires.forced in
+    let below = All-get_or (IsAmong n) orders (length c.loop-i.yielded) o turn.0 among in
     let here : o.0 < 16 = omega (arith, below.0, ap (λ p. p.0) turn.1) in
     record {
       long = length-set c.loop-i.next o.0 _ ∙ c.loop-i.invariant.long;

@@ -1,4 +1,4 @@
-use Rattle.std.proofs.Common.{arith, ◌≡◌, ◌<◌, ◌≤◌, ◌-◌, ◌++◌, ℕ, true, length, set, take, drop, sym, subst, ◌∙◌, length-set}
+use Rattle.std.proofs.Common.{arith, ◌≡◌, ◌-◌, ◌++◌, true, set, take, drop, sym, subst, ◌∙◌, length-set}
 use Rattle.order_graph.specs.Orders.{AreAmong, IsOrder}
 use Rattle.order_graph.specs.Walks.{IsPlacing}
 use Rattle.order_graph.proofs.Lists.{full}

@@ -1,9 +1,8 @@
-use Rattle.std.proofs.Common.{arith, ◌<◌, ◌++◌, ◌∷◌, [], sym, subst, length, ◌∙◌}
+use Rattle.std.proofs.Common.{arith, ◌<◌, sym, subst, ◌∙◌}
 use Rattle.std.proofs.lemmas.List.{length_push}
 use Rattle.std.proofs.lemmas.List.Elements.{All-push}
-use Rattle.std.proofs.lemmas.List.Quantifiers.{all_pairs_push}
 use Rattle.order_graph.specs.Walks.{IsNext, IsRing}
-use Rattle.order_graph.proofs.Lists.{IsOnce, room, once_push}
+use Rattle.order_graph.proofs.Lists.{room, once_push}
 use Rattle.order_graph.proofs.WayLaws.{EachNext-push, ring, starts_push}
 use Rattle.order_graph.proofs.way.follow.Goals as goal
 

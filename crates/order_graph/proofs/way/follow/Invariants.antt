@@ -1,4 +1,4 @@
-use Rattle.std.proofs.Common.{◌≡◌, ◌≢◌, ℕ, ◌-◌, ◌<◌, [], ◌∷◌, ◌++◌, length, get_or, All}
+use Rattle.std.proofs.Common.{◌≡◌, ◌-◌, ◌<◌, [], ◌∷◌, ◌++◌, length, get_or, All}
 use Rattle.order_graph.specs.Orders.{EachNext}
 use Rattle.order_graph.specs.Walks.{IsNext}
 use Rattle.order_graph.proofs.Lists.{IsOnce}

@@ -1,4 +1,4 @@
-use Rattle.std.proofs.Common.{arith, ◌≡◌, ◌-◌, ◌≤◌, take, subst}
+use Rattle.std.proofs.Common.{arith, ◌-◌, take, subst}
 use Rattle.std.proofs.lemmas.List.{take-take}
 use Rattle.order_graph.specs.Orders.{IsGraph}
 use Rattle.order_graph.proofs.OrderLaws.{graph_fewer}
