@@ -87,15 +87,4 @@ impl OrderGraph {
 }
 
 #[cfg(test)]
-mod tests {
-    ghost use Rattle.std.specs.Prelude.{◌≡◌, ◌↔◌, ◌≤◌, length, IsTrue};
-    ghost use Rattle.order_graph.specs.Orders.{AreAmong};
-
-    use super::*;
-
-    fn are_among(n: u32, orders: &[(u32, u32)]) -> bool
-        ensures { IsTrue result ↔ AreAmong n orders.now }
-    {
-        orders.iter().all(|&(i, j)| i < n && j < n && i != j)
-    }
-}
+mod tests;
