@@ -1,13 +1,18 @@
--- What the searches behind `add` and `complete` find. Each of 16 objects has a next one, or none.
+-- What the searches behind `add` and `complete` find. Each of 16 objects has a next object or none.
 --
---   IsNext next a b           the next object of a is b
---   IsWalk next start way     from start each object's next one, up to one that has none
---   IsRing next objects       each object's next one, and after the last one the first
---   IsKnown next goal a       a is the goal, or has a next object
---   IsClosed orders next goal what is ordered before a known object is known
---   IsOpen orders next goal o an order for which that fails
---   LeadsOn orders goal next  each next object is ordered after and known, and nobody comes round
---   IsNextUnplaced orders placed next  each next object is ordered after and not placed; who has none is before no such object
+--   IsNext next a b                     b is the next object of a
+--   IsNextBelow n next                  each next object is below n
+--   IsWalk next start way               from start over each one's next object to one that has none
+--   IsRing next objects                 each object's next one is the next of the list, and the last one's the first
+--
+--   IsKnown next goal a                 a is the goal, or has a next object
+--   IsClosed orders next goal           whoever is ordered before a known object is known
+--   IsOpen orders next goal o           an order for which that fails
+--   LeadsOn orders goal next            next objects are ordered after, known, and nearer to the goal by some rank
+--
+--   IsNextUnplaced orders placed next   for each object one that is ordered after it and not placed, if there is one
+--   IsLast orders placed k              k isn't placed, and all that is ordered after it is
+--   IsPlacing orders placed objects     those that are placed, each once and before all that is ordered after it
 use Rattle.std.specs.Prelude.{◌≡◌, ◌≢◌, ℕ, ◌<◌, List, [], ◌∷◌, ◌++◌, slice_index, slice_index_or, Option, Some, None, IsSome, Bool, true, false, length, All, AllPairs, Contains}
 use Rattle.order_graph.specs.Orders.{IsOrdered, EachNext, StandsBefore}
 

@@ -2,7 +2,9 @@ ghost use Rattle.std.specs.Prelude.{ℕ, ◌≤◌, List, take};
 
 use std::marker::Model;
 
-/// Objects of which each is ordered before the next one, and the last before the first: the first `len` of `objects`.
+/// Objects of which each is ordered before the next one, and the last before the first.
+///
+/// They are the first `len` of `objects`.
 #[derive(Debug, Drop)]
 pub struct Cycle {
     pub len: u32,
@@ -17,7 +19,9 @@ impl Model for Cycle {
     ghost invariant = { λ c. c.len ≤ 16 };
 }
 
-/// All objects of a graph in a row: the first `len` of `objects`.
+/// All objects of a graph, first the one that comes first.
+///
+/// They are the first `len` of `objects`.
 #[derive(Debug, Drop)]
 pub struct Order {
     pub len: u32,

@@ -5,7 +5,7 @@ ghost use Rattle.order_graph.specs.Walks.{IsKnown, IsClosed, IsOpen, LeadsOn};
 use crate::answers::Cycle;
 use crate::way::follow;
 
-/// Whether the object is the goal or has a next one on the way there.
+/// Whether the object is the goal, or has a next one on a way there.
 fn is_known(next: &[Option<u32>; 16], goal: u32, object: u32) -> bool
     requires { object < 16 }
     ensures { IsTrue result ↔ IsKnown next.now goal object }
@@ -27,6 +27,8 @@ fn open_order(held: &[(u32, u32)], next: &[Option<u32>; 16], goal: u32) -> Optio
 }
 
 /// For each object that leads to the goal the next one on a way there.
+///
+/// Reads the orders once for each of these objects, and once more: at 16 objects at most 16 times.
 fn next_towards(held: &[(u32, u32)], goal: u32) -> [Option<u32>; 16]
     requires held { AreAmong 16 held.now }
     requires goal { goal < 16 }

@@ -4,7 +4,7 @@ ghost use Rattle.order_graph.specs.Walks.{IsNextBelow, IsWalk, IsRing};
 use crate::answers::Cycle;
 use std::marker::Model;
 
-/// The objects that a search has passed, in turn.
+/// Objects that a search passes one after the other.
 #[derive(Drop)]
 pub struct Way {
     len: usize,
@@ -12,8 +12,6 @@ pub struct Way {
 }
 
 impl Model for Way {
-    ghost use Rattle.std.specs.Prelude.{ℕ, ◌≤◌, List, take};
-
     ghost Value = { List ℕ };
 
     ghost view = { λ w. take w.len w.objects };
@@ -41,7 +39,9 @@ impl Way {
 
     /// At which place the way has the object.
     pub fn place_of(&self, object: u32) -> Option<usize>
-        ensures { MatchOption result (Contains self.now object → ⊥) (λ k. (k < length self.now) × (slice_index self.now k ≡ object)) }
+        ensures { MatchOption result
+            (Contains self.now object → ⊥)
+            (λ k. (k < length self.now) × (slice_index self.now k ≡ object)) }
     {
         self.objects[..self.len].iter().position(|&o| o == object)
     }
@@ -54,14 +54,15 @@ impl Way {
     }
 
     /// The part of the way from a place on.
-    pub fn into_cycle(mut self, place: usize) -> Cycle
+    pub fn into_cycle(self, place: usize) -> Cycle
         requires { place ≤ length self }
         ensures { result ≡ drop place self }
     {
-        self.objects.rotate_left(place);
+        let Way { len, mut objects } = self;
+        objects.rotate_left(place);
         Cycle {
-            len: (self.len - place) as u32,
-            objects: self.objects,
+            len: (len - place) as u32,
+            objects,
         }
     }
 
@@ -79,7 +80,7 @@ impl Way {
     }
 }
 
-/// Goes from an object to its next one, from there on, and so forth: to one that has none, or round a cycle.
+/// Goes from an object to its next one, from there to the next, and so on: to one that has none, or round a cycle.
 pub fn follow(next: &[Option<u32>; 16], start: u32) -> Result<Way, Cycle>
     requires start { start < 16 }
     requires next { IsNextBelow 16 next.now }

@@ -52,15 +52,27 @@ fn completes_graphs_worked_by_hand(rt: HostRuntime) {
         (4, &[(3, 1), (1, 0)], &[(0, 2)], Ok(&[3, 1, 0, 2])),
         (4, &[(0, 1)], &[(2, 3), (3, 2)], Err(2)),
         (4, &[], &[(0, 1), (1, 2), (2, 3), (3, 1)], Err(3)),
-        (5, &[(4, 3), (3, 2)], &[(2, 1), (1, 0), (4, 0)], Ok(&[4, 3, 2, 1, 0])),
+        (
+            5,
+            &[(4, 3), (3, 2)],
+            &[(2, 1), (1, 0), (4, 0)],
+            Ok(&[4, 3, 2, 1, 0]),
+        ),
         (16, &[(15, 7), (7, 11)], &[(11, 15)], Err(3)),
     ];
     for (n, held, forced, want) in cases {
         assert!(rt; 1 <= n && n <= 16 && held.len() <= 256, "{n}");
-        assert!(rt; are_among(n, held) && are_among(n, forced), "{held:?} {forced:?}");
+        assert!(rt;
+            are_among(n, held) && are_among(n, forced),
+            "{held:?} {forced:?}"
+        );
         let graph = graph_of(n, held).expect(&rt, "no cycle");
         match graph.complete(forced) {
-            Ok(order) => assert_eq!(rt; Ok(&order.objects[..order.len as usize]), want, "{held:?} {forced:?}"),
+            Ok(order) => assert_eq!(rt;
+                Ok(&order.objects[..order.len as usize]),
+                want,
+                "{held:?} {forced:?}"
+            ),
             Err(cycle) => assert_eq!(rt; Err(cycle.len), want, "{held:?} {forced:?}"),
         }
     }
