@@ -1,4 +1,4 @@
-use Rattle.std.proofs.Common.{arith, refl, ◌∙◌, ◌≢◌, ◌<◌, length-set}
+use Rattle.std.proofs.Common.{arith, refl, ◌∙◌, length-set}
 use Rattle.std.proofs.lemmas.List.Elements.{All-contains}
 use Rattle.order_graph.specs.Orders.{IsAmong}
 use Rattle.order_graph.proofs.LeadingLaws.{none_known, one_known, fewer_open}

@@ -1,4 +1,4 @@
-use Rattle.std.proofs.Common.{arith, ◌≢◌, ◌<◌, ◌++◌, length, refl, subst, ap, ◌∙◌, length-set}
+use Rattle.std.proofs.Common.{arith, ◌<◌, ◌++◌, length, refl, subst, ap, ◌∙◌, length-set}
 use Rattle.std.proofs.lemmas.Iterator.{YieldsList-from_slice}
 use Rattle.std.proofs.lemmas.Iterator.Consumers.{YieldsList-at, YieldsList-from_chain, YieldsList-turn, YieldsList-end}
 use Rattle.std.proofs.lemmas.List.{map-append}
