@@ -95,7 +95,7 @@ falls : (next : List (Option ℕ)) (rank : ℕ → ℕ) → ((a b : ℕ) → IsN
 falls next rank nearer [] a b way = nearer a b way.0
 falls next rank nearer (k ∷ others) a b way = let first = nearer a k way.0 in let rest = falls next rank nearer others k b way.1 in omega arith
 
--- nobody comes round
+-- no way along the next objects comes round
 pub no_ring : (orders : List (ℕ × ℕ)) (goal : ℕ) (next : List (Option ℕ)) → LeadsOn orders goal next → (objects : List ℕ) → IsRing next objects → ⊥
 no_ring orders goal next leads [] ring = ring
 no_ring orders goal next leads (a ∷ rest) ring = let fall = falls next leads.rank leads.nearer rest a a ring in omega arith

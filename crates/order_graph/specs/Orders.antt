@@ -1,7 +1,7 @@
 -- Orders among objects, which are numbered from 0. An order is a pair: (a, b) says that object a comes before object b.
 --
 --   Graph                           so many objects, and the orders held among them, newest last
---   IsGraph n held                  what each graph keeps: at most 16 objects, orders among them, and nobody leads to itself
+--   IsGraph n held                  what each graph keeps: at most 16 objects, orders among them, and none leads to itself
 --   IsAmong n o                     the order is between two different objects below n
 --   AreAmong n orders               each order is
 --   IsOrdered orders a b            a comes before b by one of the orders

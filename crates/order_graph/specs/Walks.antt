@@ -6,7 +6,7 @@
 --   IsRing next objects                 each object's next one is the next of the list, and the last one's the first
 --
 --   IsKnown next goal a                 a is the goal, or has a next object
---   IsClosed orders next goal           whoever is ordered before a known object is known
+--   IsClosed orders next goal           what is ordered before a known object is known
 --   IsOpen orders next goal o           an order for which that fails
 --   LeadsOn orders goal next            next objects are ordered after, known, and nearer to the goal by some rank
 --
