@@ -10,13 +10,18 @@
 #![tactic(auto)]
 
 mod extent;
+mod job;
+pub mod laws;
 mod mesh;
 mod plan;
 mod plate;
 mod printer;
+mod tree;
 
 pub use extent::region;
+pub use job::{Job, Object, Zone};
 pub use mesh::{Facet, Mesh, Point3};
 pub use plan::{Place, Plan};
 pub use plate::Region;
 pub use printer::{Part, Printer, Spot};
+pub use tree::{Choice, Contact, Dir, Mult, Node, RatPoint, Tree, WideNote};

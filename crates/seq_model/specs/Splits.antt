@@ -1,0 +1,109 @@
+-- Which splits a search may make, and trees that aren't finished.
+--
+--   Values, IsOn job e path at      a point u / d, and that it is a point of the path: it meets the system there
+--   CollidesAt job e at i j         object i, as the earlier, collides there with object j
+--   TouchesAt job e at contact      the contact collides there, by the bands of its zones and its part
+--   IsForced job e at a b           a before b is forced there: the pair collides one way only, and not this way
+--   Earned job e path node          a split that a search may make
+--   Grounded job e path node        a split that a certificate may hold
+--   OpenTree job e nodes            a tree whose splits are earned and whose closed leaves are sound, with a pending leaf
+--   SpentTree job e budget s nodes  an open tree that has used the budget up, and could go on
+use Rattle.std.specs.Prelude.{◌≡◌, ℕ, ◌+◌, ◌*◌, ◌<◌, ◌≤◌, List, [], ◌∷◌, Contains, length, take, slice_get, Some, ◌⊎◌, ℤ}
+use Rattle.seq_model.specs.Jobs.{zone_at, part_at, scene_of_job}
+use Rattle.seq_model.specs.Scenes.{Overlap, Collides}
+use Rattle.seq_model.specs.Systems.{system, Meets, place_of}
+use Rattle.seq_model.specs.Trees.{IsCycle, AreChildren, IsSound, Reads, IsTree}
+use Rattle.seq_model.specs.declared.job.Job.{Job}
+use Rattle.seq_model.specs.declared.tree.Choice.{Choice}
+use Rattle.seq_model.specs.declared.tree.Choice.TheVariants as Choices
+use Rattle.seq_model.specs.declared.tree.Contact.{Contact}
+use Rattle.seq_model.specs.declared.tree.Node.{Node}
+use Rattle.seq_model.specs.declared.tree.Node.TheVariants as Nodes
+
+pub record Values : Type 0 where
+  pub d : ℤ
+  pub u : List ℤ
+
+-- all variables are at least 0, and all rows of the system are met
+pub record IsOn (job : Job) (e : ℕ) (path : List Choice) (at : Values) : Type 0 where
+  pub meets : Meets (system job e path) at.d at.u
+  pub many : length at.u ≡ 2 * length job.objects
+
+-- at some point of the path this holds
+pub record Somewhere (job : Job) (e : ℕ) (path : List Choice) (Here : Values → Type 0) : Type 0 where
+  pub at : Values
+  pub on : IsOn job e path at
+  pub here : Here at
+
+abbrev pub CollidesAt : Job → ℕ → Values → ℕ → ℕ → Type 0
+CollidesAt job e at i j = Collides (scene_of_job job) i (place_of job e at.d at.u i) j (place_of job e at.d at.u j)
+
+abbrev pub TouchesAt : Job → ℕ → Values → Contact → Type 0
+TouchesAt job e at c =
+    Overlap (zone_at job c.i c.zi).corners (zone_at job c.j c.zj).corners (part_at job c.part).corners (place_of job e at.d at.u c.i) (place_of job e at.d at.u c.j)
+
+abbrev pub IsForced : Job → ℕ → Values → ℕ → ℕ → Type 0
+IsForced job e at a b = CollidesAt job e at b a × (CollidesAt job e at a b → ⊥)
+
+-- neither order of the pair is on the path
+abbrev pub IsUnordered : List Choice → ℕ → ℕ → Type 0
+IsUnordered path i j = (Contains path (Choices.Before i j) → ⊥) × (Contains path (Choices.Before j i) → ⊥)
+
+-- a before b on the path, or forced there
+abbrev pub Precedes : Job → ℕ → List Choice → Values → ℕ → ℕ → Type 0
+Precedes job e path at a b = Contains path (Choices.Before a b) ⊎ IsForced job e at a b
+
+-- a and then b are neighbours of a cycle of path orders and forced orders, which may be begun with them
+abbrev pub AreNeighbours : Job → ℕ → List Choice → Values → ℕ → ℕ → Type 0
+AreNeighbours job e path at a b = (others : List ℕ) × IsCycle (Precedes job e path at) (a ∷ b ∷ others)
+
+abbrev pub Earned : Job → ℕ → List Choice → Node → Type 0
+Earned job e path (Nodes.Side contact children) = Somewhere job e path (λ at. TouchesAt job e at contact)
+Earned job e path (Nodes.Order i j) =
+    IsUnordered path i j × Somewhere job e path (λ at.
+    (CollidesAt job e at i j × CollidesAt job e at j i) ⊎ (AreNeighbours job e path at i j ⊎ AreNeighbours job e path at j i))
+Earned job e path (Nodes.Bound mults) = Unit {0}
+Earned job e path (Nodes.Cycle objects) = Unit {0}
+Earned job e path Nodes.Pending = Unit {0}
+
+abbrev pub Grounded : Job → ℕ → List Choice → Node → Type 0
+Grounded job e path (Nodes.Side contact children) = Somewhere job e path (λ at. TouchesAt job e at contact)
+Grounded job e path (Nodes.Order i j) = IsUnordered path i j × Somewhere job e path (λ at. CollidesAt job e at i j ⊎ CollidesAt job e at j i)
+Grounded job e path (Nodes.Bound mults) = Unit {0}
+Grounded job e path (Nodes.Cycle objects) = Unit {0}
+Grounded job e path Nodes.Pending = Unit {0}
+
+pub record OpenTree (job : Job) (e : ℕ) (nodes : List Node) : Type 0 where
+  pub tree : IsTree job (λ path node. IsSound job e path node × Earned job e path node) [] nodes
+  pub pending : Contains nodes Nodes.Pending
+
+-- node k of the tree stands at this path
+abbrev pub StandsAt : Job → List Node → ℕ → List Choice → Type 0
+StandsAt job nodes k path = (left : List (List Choice)) × Reads job (λ at node. Unit {0}) ([] ∷ []) (take k nodes) (path ∷ left)
+
+abbrev pub IsSplit : Node → Type 0
+IsSplit (Nodes.Order i j) = Unit {0}
+IsSplit (Nodes.Side contact children) = Unit {0}
+IsSplit (Nodes.Bound mults) = ⊥
+IsSplit (Nodes.Cycle objects) = ⊥
+IsSplit Nodes.Pending = ⊥
+
+-- a split that could be made at the path
+pub record CouldSplit (job : Job) (e : ℕ) (path : List Choice) : Type 0 where
+  pub node : Node
+  pub split : IsSplit node
+  pub sound : IsSound job e path node
+  pub paths : List (List Choice)
+  pub children : AreChildren job path node paths
+  pub earned : Earned job e path node
+
+-- s is the greatest number of sides of a contact, and at least 3
+pub record SpentTree (job : Job) (e budget s : ℕ) (nodes : List Node) : Type 0 where
+  pub tree : OpenTree job e nodes
+  pub spent : budget ≤ length nodes
+  pub just : length nodes < budget + s
+  pub leaf : ℕ
+  pub leaf_is : slice_get nodes leaf ≡ Some Nodes.Pending
+  pub path : List Choice
+  pub path_is : StandsAt job nodes leaf path
+  pub more : CouldSplit job e path
