@@ -46,6 +46,7 @@ before a b e = by_ranked (a.x <ℤ b.x) (a.x ≡ b.x) (b.x <ℤ a.x) (int_cmp a.
       where
         less_of : (r : Ordering) → r ≡ int_cmp a.y b.y → int_cmp a.y b.y ≡ Less → a.y <ℤ b.y
         less_of r q l = grind (arith, ints, nat_tests)
+
     never : int_cmp a.x b.x ≡ Greater → ⊥
     never o = not_less (sym (ap (λ t. ordering_then t (int_cmp a.y b.y)) o) ∙ e)
       where

@@ -117,6 +117,7 @@ above_on hx hy o b (a ∷ cs) acc p r h s i = above_on hx hy o a cs (b ∷ acc) 
   where
     here : height hx hy o <ℤ height hx hy b
     here = let low = bottom_below hx hy a cs r.1 in let up = r.0 in omega (arith, ints)
+
     also : (s : Spot) → In s (b ∷ acc) → height hx hy o <ℤ height hx hy s
     also s (inl e) = subst (λ u. height hx hy o <ℤ height hx hy u) (sym e) here
     also s (inr j) = h s j
@@ -128,6 +129,7 @@ above_corners hx hy S a ls e us r = above_on hx hy (bottom a ls) (bottom e us) (
     pick : (s : Spot) → (In s (e ∷ us) ⊎ In s []) → In s (e ∷ us)
     pick s (inl j) = j
     pick s (inr j) = absurd j
+
     upper : (s : Spot) → In s (rest_of e us []) → height hx hy (bottom a ls) <ℤ height hx hy s
     upper s i = falling hx hy s (bottom a ls) (below_top (neg_ℤ hx) (neg_ℤ hy) (bottom a ls) (e ∷ us) r.high_rises s (pick s (in_rest s e us [] i)))
 
@@ -201,10 +203,13 @@ two_ends hx hy S b a t u p e f r =
     above : (s : Spot) → In s (b ∷ []) → height hx hy t <ℤ height hx hy s
     above s (inl q) = subst (λ x. height hx hy t <ℤ height hx hy x) (sym q) p
     above s (inr i) = absurd i
+
     both : (m n : ℤ) → m ≡ neg_ℤ n → pos 0 ≤ℤ m → pos 0 ≤ℤ n → m ≡ pos 0
     both m n g h k = omega (arith, ints)
+
     flat : (s : Spot) → In s S → turn t b s ≡ pos 0
     flat s i = both (turn t b s) (turn b t s) (turn_flipped t b s) (subst (λ x. pos 0 ≤ℤ turn x b s) e (r.low_left s i).0) (subst (λ x. pos 0 ≤ℤ turn x t s) f (r.high_left s i).0)
+
     low : (s : Spot) → In s S → height hx hy t ≤ℤ height hx hy s
     low s i = let h = r.high_below s i in let x = opposite hx hy s in let y = opposite hx hy t in omega (arith, ints)
 
@@ -288,7 +293,7 @@ ByParts hx hy S first (b ∷ lo) = GrownAs hx hy S first b lo
 grown_as : (hx hy : ℤ) (S : List Spot) (first b : Spot) (lo c : List Spot) → Grown hx hy S first c → c ≡ b ∷ lo → GrownAs hx hy S first b lo
 grown_as hx hy S first b lo c g e =
     subst (λ l. ByParts hx hy S first l) (sym g.is ∙ e)
-        (record { rises = g.rises; bends = g.bends; covers = g.covers; from_first = g.from_first; members = λ s i. g.members s (subst (λ l. In s l) (sym g.is) i) })
+    (record { rises = g.rises; bends = g.bends; covers = g.covers; from_first = g.from_first; members = λ s i. g.members s (subst (λ l. In s l) (sym g.is) i) })
 
 pub closed_of : (hx hy : ℤ) (s p : Spot) (ps : List Spot) → Ascends hx hy s (p ∷ ps) → Closed hx hy s (s ∷ p ∷ ps) (both_chains (s ∷ p ∷ ps))
 closed_of hx hy s p ps a =
@@ -307,16 +312,16 @@ closed_of hx hy s p ps a =
     let au = grown_as nx ny (last ∷ qs) last s tu.rest (grown [] (last ∷ qs)) (grown_all nx ny last qs back) high_is in
     let same : both_chains S ≡ joined tl.rest tu.rest = rw (tl.is, rev, high_is) refl in
     subst (λ l. Closed hx hy s S l) (sym same)
-        (meet hx hy S last tl.rest s tu.rest (up_to hx hy s p ps a) al.from_first au.from_first
-            (record {
-              low_rises = al.rises;
-              high_rises = au.rises;
-              low_bends = al.bends;
-              high_bends = au.bends;
-              low_left = λ x i. (al.covers x i).left;
-              high_left = λ x i. (au.covers x (in_turned x s (p ∷ ps) [] (inl i))).left;
-              low_in = al.members;
-              high_in = λ x i. from_turned x s (p ∷ ps) (au.members x i);
-              low_below = λ x i. (al.covers x i).below;
-              high_below = λ x i. (au.covers x (in_turned x s (p ∷ ps) [] (inl i))).below;
-            }))
+    (meet hx hy S last tl.rest s tu.rest (up_to hx hy s p ps a) al.from_first au.from_first
+    (record {
+      low_rises = al.rises;
+      high_rises = au.rises;
+      low_bends = al.bends;
+      high_bends = au.bends;
+      low_left = λ x i. (al.covers x i).left;
+      high_left = λ x i. (au.covers x (in_turned x s (p ∷ ps) [] (inl i))).left;
+      low_in = al.members;
+      high_in = λ x i. from_turned x s (p ∷ ps) (au.members x i);
+      low_below = λ x i. (al.covers x i).below;
+      high_below = λ x i. (au.covers x (in_turned x s (p ∷ ps) [] (inl i))).below;
+    }))

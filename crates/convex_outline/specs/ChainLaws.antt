@@ -207,6 +207,7 @@ step hx hy S first p c g t =
         put_on hx hy p s f.top f.rest f.up f.rises f.bends_on (omega (arith, ints)) (f.covers s (covering hx hy p s g.top g.rest v))
     either s f (inr (inr i)) = absurd i
     either s f (inr (inl e)) = subst (λ q. Covers hx hy q p (f.top ∷ f.rest)) (sym e) (new_one hx hy p f.top f.rest f.up f.rises f.bends f.bends_on)
+
     from : (s : Spot) (f : Fallen hx hy p g.top g.rest) → In s (p ∷ f.top ∷ f.rest) → In s (S ++ p ∷ [])
     from s f (inl e) = In-append_right S (p ∷ []) s (inl e)
     from s f (inr i) = In-append_left S (p ∷ []) s (g.members s (subst (λ l. In s l) (sym g.is) (f.members s i)))
@@ -216,7 +217,7 @@ unfolding step
 grow hx hy S first c [] g a = subst (λ T. Grown hx hy T first c) (sym (append-nil S)) g
 grow hx hy S first c (p ∷ ps) g a =
     subst (λ T. Grown hx hy T first (grown (p ∷ fallen p c) ps)) (append_assoc S (p ∷ []) ps)
-        (grow hx hy (S ++ p ∷ []) first (p ∷ fallen p c) ps (step hx hy S first p c g a.0) a.1)
+    (grow hx hy (S ++ p ∷ []) first (p ∷ fallen p c) ps (step hx hy S first p c g a.0) a.1)
 
 pub one : (hx hy : ℤ) (s : Spot) → Grown hx hy (s ∷ []) s (s ∷ [])
 one hx hy s = record { top = s; rest = []; is = refl; rises = tt; bends = tt; covers = λ p i. alone p i; from_first = refl; members = λ p i. i }

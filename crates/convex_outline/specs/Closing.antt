@@ -95,8 +95,10 @@ sharp hx hy S a b c p q i s r area = by_lt_z (pos 0) (turn a b c) (λ h. h) (λ 
   where
     none : pos 0 <ℤ pos 0 → ⊥
     none h = omega (arith, ints)
+
     both : (n : ℤ) → pos 0 ≤ℤ n → n ≤ℤ pos 0 → n ≡ pos 0
     both n h k = omega (arith, ints)
+
     flat : turn a b c ≤ℤ pos 0 → (t : Spot) → In t S → turn a b t ≡ pos 0
     flat h t j = both _ (s t j) (on_line hx hy a b c t p q (both _ (s c i) h) (r t j))
 
@@ -125,6 +127,7 @@ corners_in S a ls e us c s (inr i) = first (in_rest s (bottom e us) (a ∷ ls) (
     second : (In s (e ∷ us) ⊎ In s []) → In s S
     second (inl j) = c.high_in s (inr j)
     second (inr j) = absurd j
+
     first : (In s (bottom e us ∷ a ∷ ls) ⊎ In s (rest_of e us [])) → In s S
     first (inl j) = c.low_in s j
     first (inr j) = second (in_rest s e us [] j)
@@ -138,4 +141,3 @@ turns_of S a ls e us c =
 
 pub last_corner : (a : Spot) (ls : List Spot) (e : Spot) (us : List Spot) → last_of (bottom a ls) (rest_of (bottom e us) (a ∷ ls) (rest_of e us [])) ≡ e
 last_corner a ls e us = last_on (bottom a ls) (bottom e us) a ls (rest_of e us []) ∙ last_upper e us
-

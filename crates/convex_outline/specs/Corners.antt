@@ -8,9 +8,12 @@
 --   LeftAbout a C       any two of C, in their order, stand counterclockwise about a
 --   TurnsLeft C         any three of C, in their order, turn left
 --   AreCorners C        the corners of a convex outline, counterclockwise from the least: what `hull` gives
+--   NoThreeOnALine C    of three different members none lies on the line of the other two
+--   IsBetween a b s     s is not before a and not after b
+--   AreEnds S C         C are the first and the last member of S in that order, one if they are the same, none of no member
 --   HasArea S           three members turn left: they don't all lie on one line
 --   IsNear s            the coordinates of s are below 2^21 in size
-use Rattle.std.specs.Prelude.{◌≡◌, ℕ, ◌<◌, ◌^◌, List, [], ◌∷◌, ℤ, pos, ◌-ℤ◌, ◌*ℤ◌, ◌<ℤ◌, ◌⊎◌, unsigned_abs, All}
+use Rattle.std.specs.Prelude.{◌≡◌, ℕ, ◌<◌, ◌^◌, List, [], ◌∷◌, ℤ, pos, ◌-ℤ◌, ◌*ℤ◌, ◌<ℤ◌, ◌⊎◌, unsigned_abs, All, Contains}
 use Rattle.integer_laws.specs.Members.{In}
 use Rattle.seq_model.specs.declared.printer.Spot.{Spot}
 use Rattle.seq_model.specs.Points.{Point}
@@ -49,6 +52,23 @@ TurnsLeft (a ∷ bs) = LeftAbout a bs × TurnsLeft bs
 pub record AreCorners (C : List Spot) : Type 0 where
   pub least : StartsLeast C
   pub left : TurnsLeft C
+
+-- of three different members none lies on the line of the other two
+abbrev pub NoThreeOnALine : List Spot → Type 0
+NoThreeOnALine C =
+    (a b c : Spot) → Contains C a → Contains C b → Contains C c → (a ≡ b → ⊥) → (b ≡ c → ⊥) → (a ≡ c → ⊥) → turn a b c ≡ pos 0 → ⊥
+
+-- neither before a nor after b
+pub record IsBetween (a b s : Spot) : Type 0 where
+  pub from : (s ≡ a) ⊎ IsBefore a s
+  pub to : (s ≡ b) ⊎ IsBefore s b
+
+-- the ends of a list: none of no member, one of one member, however often, and else the first and the last in order
+abbrev pub AreEnds : List Spot → List Spot → Type 0
+AreEnds S [] = S ≡ []
+AreEnds S (a ∷ []) = Contains S a × All (λ s. s ≡ a) S
+AreEnds S (a ∷ b ∷ []) = IsBefore a b × Contains S a × Contains S b × All (IsBetween a b) S
+AreEnds S (a ∷ b ∷ c ∷ C) = ⊥
 
 -- not all on one line
 pub record HasArea (S : List Spot) : Type 0 where

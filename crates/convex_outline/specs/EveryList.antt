@@ -32,7 +32,7 @@ ahead k x1 x2 y1 y2 w h l =
 level : (k x1 x2 y1 y2 : ℤ) → x1 ≡ x2 → y1 <ℤ y2 → (k *ℤ x1 +ℤ pos 1 *ℤ y1) <ℤ (k *ℤ x2 +ℤ pos 1 *ℤ y2)
 level k x1 x2 y1 y2 e h = rw e (omega (arith, ints))
 
-higher : (k : ℤ) (a b : Spot) → pos 0 ≤ℤ k → (a.y -ℤ b.y) <ℤ k → IsBefore a b → height k (pos 1) a <ℤ height k (pos 1) b
+pub higher : (k : ℤ) (a b : Spot) → pos 0 ≤ℤ k → (a.y -ℤ b.y) <ℤ k → IsBefore a b → height k (pos 1) a <ℤ height k (pos 1) b
 higher k a b w n (inl h) = ahead k a.x b.x a.y b.y w h n
 higher k a b w n (inr h) = level k a.x b.x a.y b.y h.0 h.1
 
@@ -67,6 +67,7 @@ rising_hull k (s ∷ p ∷ ps) w r h =
       where
         never : height k (pos 1) s <ℤ height k (pos 1) s → ⊥
         never h = omega (arith, ints)
+
         pick : ((x ≡ s) ⊎ IsBefore s x) → IsBefore s x
         pick (inl e) = absurd (never (subst (λ u. height k (pos 1) s <ℤ height k (pos 1) u) e (c.above x i)))
         pick (inr b) = b
@@ -75,10 +76,10 @@ rising_hull k (s ∷ p ∷ ps) w r h =
 abbrev spot : ℤ → ℤ → Spot
 spot x y = record { x = x; y = y }
 
-abbrev Compared : Spot → Spot → Type 0
+abbrev pub Compared : Spot → Spot → Type 0
 Compared a b = IsBefore a b ⊎ ((a ≡ b) ⊎ IsBefore b a)
 
-compared : (a b : Spot) → Compared a b
+pub compared : (a b : Spot) → Compared a b
 compared a b = by_lt_z a.x b.x (λ h. inl (inl h)) (λ h. by_lt_z b.x a.x (λ k. inr (inr (inl k))) (λ k. level_x (omega (arith, ints))))
   where
     level_x : a.x ≡ b.x → Compared a b
@@ -112,6 +113,7 @@ insert s (p ∷ ps) r = by (compared s p) (insert s ps (rest_rises p ps r))
         into x (inl f) = inr (m.into x (inl f))
         into x (inr (inl f)) = inl f
         into x (inr (inr i)) = inr (m.into x (inr i))
+
         from : (x : Spot) → In x (p ∷ m.list) → In x (s ∷ p ∷ ps)
         from x (inl f) = inr (inl f)
         from x (inr i) = pick (m.from x i)
@@ -136,12 +138,13 @@ ordered (s ∷ S) =
     into : (o : Ordered S) (x : Spot) → In x (s ∷ S) → In x (s ∷ o.list)
     into o x (inl e) = inl e
     into o x (inr i) = inr (o.into x i)
+
     from : (o : Ordered S) (x : Spot) → In x (s ∷ o.list) → In x (s ∷ S)
     from o x (inl e) = inl e
     from o x (inr i) = inr (o.from x i)
 
 -- ---- and a width
-record Bounded (S : List Spot) : Type 0 where
+pub record Bounded (S : List Spot) : Type 0 where
   pub m : ℤ
   pub least : pos 0 ≤ℤ m
   pub most : (s : Spot) → In s S → s.y ≤ℤ m
@@ -156,24 +159,27 @@ record SizeOf (y : ℤ) : Type 0 where
 size_of : (y : ℤ) → SizeOf y
 size_of y = by_lt_z y (pos 0) (λ h. record { n = neg_ℤ y; least = omega (arith, ints); most = omega (arith, ints); low = omega (arith, ints) }) (λ h. record { n = y; least = h; most = omega (arith, ints); low = omega (arith, ints) })
 
-bounded : (S : List Spot) → Bounded S
+pub bounded : (S : List Spot) → Bounded S
 bounded [] = record { m = pos 0; least = omega (arith, ints); most = λ s i. absurd i; low = λ s i. absurd i }
 bounded (x ∷ S) = let b = bounded S in let n = size_of x.y in record { m = n.n +ℤ b.m; least = sum _ _ n.least b.least; most = most b n; low = low b n }
   where
     sum : (a b : ℤ) → pos 0 ≤ℤ a → pos 0 ≤ℤ b → pos 0 ≤ℤ (a +ℤ b)
     sum a b h k = omega (arith, ints)
+
     most : (b : Bounded S) (n : SizeOf x.y) (s : Spot) → In s (x ∷ S) → s.y ≤ℤ (n.n +ℤ b.m)
     most b n s (inl e) = let h = n.most in let k = b.least in subst (λ t. t.y ≤ℤ (n.n +ℤ b.m)) (sym e) (omega (arith, ints))
     most b n s (inr i) = let h = b.most s i in let k = n.least in omega (arith, ints)
+
     low : (b : Bounded S) (n : SizeOf x.y) (s : Spot) → In s (x ∷ S) → neg_ℤ (n.n +ℤ b.m) ≤ℤ s.y
     low b n s (inl e) = let h = n.low in let k = b.least in subst (λ t. neg_ℤ (n.n +ℤ b.m) ≤ℤ t.y) (sym e) (omega (arith, ints))
     low b n s (inr i) = let h = b.low s i in let k = n.least in omega (arith, ints)
 
-wide_of : (S : List Spot) → (b : Bounded S) → Wide ((b.m +ℤ b.m) +ℤ pos 1) S
+pub wide_of : (S : List Spot) → (b : Bounded S) → Wide ((b.m +ℤ b.m) +ℤ pos 1) S
 wide_of S b = record { least = twice b.m b.least; apart = λ x y i j. apart x.y y.y b.m (b.most x i) (b.low y j) }
   where
     twice : (m : ℤ) → pos 0 ≤ℤ m → pos 0 ≤ℤ ((m +ℤ m) +ℤ pos 1)
     twice m h = omega (arith, ints)
+
     apart : (x y m : ℤ) → x ≤ℤ m → neg_ℤ m ≤ℤ y → (x -ℤ y) <ℤ ((m +ℤ m) +ℤ pos 1)
     apart x y m h k = omega (arith, ints)
 

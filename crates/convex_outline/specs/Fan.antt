@@ -78,4 +78,3 @@ mean_of q is o vs b =
     let eq_x = sym (weigh_from q.d q.x (λ s. s.x) (o ∷ vs) w) ∙ sum_x in
     let eq_y = sym (weigh_from q.d q.y (λ s. s.y) (o ∷ vs) w) ∙ sum_y in
     record { point = is; w = w; weights = (b.k_is, weights_map (pos 0) (from q) vs b.w b.w_are); some = omega (arith, ints); x = same_of_difference eq_x; y = same_of_difference eq_y }
-

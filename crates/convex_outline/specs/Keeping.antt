@@ -90,31 +90,42 @@ segment hx hy S t b up ti bi flat top low =
     members s (inl e) = subst (λ u. In u S) (sym e) ti
     members s (inr (inl e)) = subst (λ u. In u S) (sym e) bi
     members s (inr (inr i)) = absurd i
+
     at_is : (s : Spot) → turn t b s ≡ pos 0 → turn_at t b (at_spot s) ≡ pos 0
     at_is s e = same_from e (simp expand (omega (arith, ints)))
+
     first : (m n : ℤ) → n ≤ℤ m → pos 0 ≤ℤ (m *ℤ pos 1 -ℤ n)
     first m n h = omega (arith, ints)
+
     second : (m n : ℤ) → n ≤ℤ m → pos 0 ≤ℤ (m -ℤ n *ℤ pos 1)
     second m n h = omega (arith, ints)
+
     some : (m n o : ℤ) → n <ℤ m → pos 0 <ℤ ((m *ℤ pos 1 -ℤ o) +ℤ (o -ℤ n *ℤ pos 1))
     some m n o h = omega (arith, ints)
+
     within : (s : Spot) → In s S → Within (t ∷ b ∷ []) (at_spot s)
     within s i =
         let h = height hx hy s in
         mean_of_ends (pos 0) hx hy t b (at_spot s) (record { positive = omega (arith, ints) }) (at_is s (flat s i)) (some (height hx hy b) (height hx hy t) h up) (first (height hx hy b) h (top s i)) (second h (height hx hy t) (low s i))
+
     over : (m n : ℤ) → n <ℤ m → pos 1 ≤ℤ (m -ℤ n)
     over m n h = omega (arith, ints)
+
     sum : (m n : ℤ) → pos 1 ≤ℤ m → pos 1 ≤ℤ n → pos 0 <ℤ (m +ℤ n)
     sum m n h k = omega (arith, ints)
+
     turned : (hx hy qx qy g d : ℤ) → (neg_ℤ hx *ℤ qx +ℤ neg_ℤ hy *ℤ qy) <ℤ (neg_ℤ g *ℤ d) → (g *ℤ d) <ℤ (hx *ℤ qx +ℤ hy *ℤ qy)
     turned hx hy qx qy g d h =
         let e : neg_ℤ hx *ℤ qx +ℤ neg_ℤ hy *ℤ qy ≡ neg_ℤ (hx *ℤ qx +ℤ hy *ℤ qy) = simp expand (omega (arith, ints)) in
         let f : neg_ℤ g *ℤ d ≡ neg_ℤ (g *ℤ d) = simp expand (omega (arith, ints)) in
         omega (arith, ints)
+
     falls : (m n o : ℤ) → m ≡ neg_ℤ n → o ≤ℤ n → m ≤ℤ neg_ℤ o
     falls m n o e h = omega (arith, ints)
+
     falls_more : (m n o : ℤ) → m ≡ neg_ℤ n → o <ℤ n → m <ℤ neg_ℤ o
     falls_more m n o e h = omega (arith, ints)
+
     inner : (q : Point) → Inner S q → Inner (t ∷ b ∷ []) q
     inner q m =
         let nx = neg_ℤ hx in

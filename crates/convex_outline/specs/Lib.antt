@@ -7,6 +7,7 @@ pub mod EveryList
 pub mod Fan
 pub mod Inside
 pub mod Keeping
+pub mod Laws
 pub mod Means
 pub mod Polygons
 pub mod Turning

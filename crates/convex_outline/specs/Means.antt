@@ -1,6 +1,7 @@
 -- Means of the members of a list.
 --
 --   inner_below       a point that is inner to a list lies below a bound of its members' heights, if some member does
+--   within_at_most    what is within it is no higher than the bound
 --   inner_level       and on the height that all members have
 --   add_member        a point that is inner to a list is inner to it with one more member that lies within it
 --   member_within     each member of a list is within it
@@ -10,8 +11,8 @@
 use Rattle.std.proofs.Common.{◌≡◌, List, [], ◌∷◌, ◌++◌, take, drop, length, refl, sym, subst, ◌∙◌, arith, ℤ, pos, neg_ℤ, ◌+ℤ◌, ◌-ℤ◌, ◌*ℤ◌, ◌≤ℤ◌, ◌<ℤ◌, inl, inr}
 use Rattle.std.proofs.lemmas.Int.{ints}
 use Rattle.integer_laws.specs.Ring.{expand, mul-one}
-use Rattle.integer_laws.specs.Order.{same_from, lt_from, add_same, add_le, add_lt_le, le_of_same, mul_same, mul_le, mul_lt, mul_positive, cancel_lt, cancel_same}
-use Rattle.integer_laws.specs.Weights.{weigh, total, AreWeights, weigh-linear, weigh_constant, weigh_below, weigh-append, weigh_joined, length-weights, weights_joined, weights_front, weights_rest, total_nonneg}
+use Rattle.integer_laws.specs.Order.{same_from, lt_from, add_same, add_le, add_lt_le, le_of_same, mul_same, mul_le, mul_lt, mul_positive, le_from, cancel_le, cancel_lt, cancel_same}
+use Rattle.integer_laws.specs.Weights.{weigh, total, AreWeights, weigh-linear, weigh_constant, weigh_below, weigh_at_most, weigh-append, weigh_joined, length-weights, weights_joined, weights_front, weights_rest, total_nonneg}
 use Rattle.integer_laws.specs.Members.{In, In-append_right}
 use Rattle.seq_model.specs.declared.printer.Spot.{Spot}
 use Rattle.seq_model.specs.Points.{Point, IsPoint}
@@ -33,7 +34,21 @@ pub inner_below : (x y g : ℤ) (S : List Spot) (q : Point) → ((s : Spot) → 
     → (x *ℤ q.x +ℤ y *ℤ q.y) <ℤ (g *ℤ q.d)
 inner_below x y g S q most t i less m =
     mean_below x y g q.d (total S m.w) (weigh (λ s. s.x) S m.w) (weigh (λ s. s.y) S m.w) q.x q.y (weigh (λ s. x *ℤ s.x +ℤ y *ℤ s.y) S m.w) (positive m.point.positive) (positive m.some)
-        (weigh_below (λ s. x *ℤ s.x +ℤ y *ℤ s.y) g S m.w t m.weights most i less) (weigh-linear x y (λ s. s.x) (λ s. s.y) S m.w) m.x m.y
+    (weigh_below (λ s. x *ℤ s.x +ℤ y *ℤ s.y) g S m.w t m.weights most i less) (weigh-linear x y (λ s. s.x) (λ s. s.y) S m.w) m.x m.y
+
+at_most_by : (x y g d t wx wy qx qy v : ℤ) → pos 0 <ℤ d → pos 0 <ℤ t → v ≤ℤ (g *ℤ t) → v ≡ x *ℤ wx +ℤ y *ℤ wy → d *ℤ wx ≡ qx *ℤ t → d *ℤ wy ≡ qy *ℤ t
+    → (x *ℤ qx +ℤ y *ℤ qy) ≤ℤ (g *ℤ d)
+at_most_by x y g d t wx wy qx qy v p q h e ex ey =
+    let facts = add_le (mul_le d (nonneg p) h) (add_le (le_of_same (mul_same d (sym e))) (add_le (le_of_same (mul_same x (sym ex))) (le_of_same (mul_same y (sym ey))))) in
+    cancel_le t q (le_from facts (simp expand (omega (arith, ints))))
+  where
+    nonneg : {n : ℤ} → pos 0 <ℤ n → pos 0 ≤ℤ n
+    nonneg h = omega (arith, ints)
+
+pub within_at_most : (x y g : ℤ) (S : List Spot) (q : Point) → ((s : Spot) → In s S → height x y s ≤ℤ g) → Within S q → (x *ℤ q.x +ℤ y *ℤ q.y) ≤ℤ (g *ℤ q.d)
+within_at_most x y g S q most m =
+    at_most_by x y g q.d (total S m.w) (weigh (λ s. s.x) S m.w) (weigh (λ s. s.y) S m.w) q.x q.y (weigh (λ s. x *ℤ s.x +ℤ y *ℤ s.y) S m.w) (positive m.point.positive) (positive m.some)
+    (weigh_at_most (λ s. x *ℤ s.x +ℤ y *ℤ s.y) g S m.w m.weights most) (weigh-linear x y (λ s. s.x) (λ s. s.y) S m.w) m.x m.y
 
 mean_level : (x y g d t wx wy qx qy v : ℤ) → pos 0 <ℤ t → v ≡ g *ℤ t → v ≡ x *ℤ wx +ℤ y *ℤ wy → d *ℤ wx ≡ qx *ℤ t → d *ℤ wy ≡ qy *ℤ t → x *ℤ qx +ℤ y *ℤ qy ≡ g *ℤ d
 mean_level x y g d t wx wy qx qy v p c e ex ey =
@@ -42,7 +57,7 @@ mean_level x y g d t wx wy qx qy v p c e ex ey =
 pub inner_level : (x y g : ℤ) (S : List Spot) (q : Point) → ((s : Spot) → In s S → height x y s ≡ g) → Inner S q → x *ℤ q.x +ℤ y *ℤ q.y ≡ g *ℤ q.d
 inner_level x y g S q same m =
     mean_level x y g q.d (total S m.w) (weigh (λ s. s.x) S m.w) (weigh (λ s. s.y) S m.w) q.x q.y (weigh (λ s. x *ℤ s.x +ℤ y *ℤ s.y) S m.w) (positive m.some)
-        (weigh_constant (λ s. x *ℤ s.x +ℤ y *ℤ s.y) g S m.w same) (weigh-linear x y (λ s. s.x) (λ s. s.y) S m.w) m.x m.y
+    (weigh_constant (λ s. x *ℤ s.x +ℤ y *ℤ s.y) g S m.w same) (weigh-linear x y (λ s. s.x) (λ s. s.y) S m.w) m.x m.y
 
 -- ---- one more member
 -- m times the weights w, less the weights v

@@ -51,11 +51,13 @@ left_of_edge u v S q seen t i h m =
   where
     turn_is : (u v s : Spot) → turn u v s ≡ ((v.y -ℤ u.y) *ℤ u.x +ℤ (u.x -ℤ v.x) *ℤ u.y) -ℤ ((v.y -ℤ u.y) *ℤ s.x +ℤ (u.x -ℤ v.x) *ℤ s.y)
     turn_is u v s = simp expand (omega (arith, ints))
+
     at_most : (u v s : Spot) → pos 0 ≤ℤ turn u v s → ((v.y -ℤ u.y) *ℤ s.x +ℤ (u.x -ℤ v.x) *ℤ s.y) ≤ℤ ((v.y -ℤ u.y) *ℤ u.x +ℤ (u.x -ℤ v.x) *ℤ u.y)
     at_most u v s h = by _ _ _ (turn_is u v s) h
       where
         by : (t g n : ℤ) → t ≡ g -ℤ n → pos 0 ≤ℤ t → n ≤ℤ g
         by t g n e h = omega (arith, ints)
+
     below_is : (u v s : Spot) → pos 0 <ℤ turn u v s → ((v.y -ℤ u.y) *ℤ s.x +ℤ (u.x -ℤ v.x) *ℤ s.y) <ℤ ((v.y -ℤ u.y) *ℤ u.x +ℤ (u.x -ℤ v.x) *ℤ u.y)
     below_is u v s h = by _ _ _ (turn_is u v s) h
       where

@@ -59,12 +59,12 @@ last_sum ab ac ad bc bd cd e = same_from (sym e) (simp expand (omega (arith, int
 four_first : (o a b c d : Spot) → turn o b c *ℤ turn a b d ≡ turn o a b *ℤ turn b c d +ℤ turn o b d *ℤ turn a b c
 four_first o a b c d =
     rw (turn_from o a b, turn_from o b c, turn_from o b d, apart o a b d, apart o b c d, apart o a b c)
-        (let x = less a o in let y = less b o in let z = less c o in let w = less d o in first_sum (cross x y) (cross x z) (cross x w) (cross y z) (cross y w) (cross z w) (plucker x y z w))
+    (let x = less a o in let y = less b o in let z = less c o in let w = less d o in first_sum (cross x y) (cross x z) (cross x w) (cross y z) (cross y w) (cross z w) (plucker x y z w))
 
 four_last : (o a b c d : Spot) → turn o b c *ℤ turn a c d ≡ turn o c d *ℤ turn a b c +ℤ turn o a c *ℤ turn b c d
 four_last o a b c d =
     rw (turn_from o b c, turn_from o c d, turn_from o a c, apart o a c d, apart o a b c, apart o b c d)
-        (let x = less a o in let y = less b o in let z = less c o in let w = less d o in last_sum (cross x y) (cross x z) (cross x w) (cross y z) (cross y w) (cross z w) (plucker x y z w))
+    (let x = less a o in let y = less b o in let z = less c o in let w = less d o in last_sum (cross x y) (cross x z) (cross x w) (cross y z) (cross y w) (cross z w) (plucker x y z w))
 
 by_four : (k t m n p q : ℤ) → pos 0 <ℤ k → pos 0 <ℤ m → pos 0 <ℤ n → pos 0 <ℤ p → pos 0 <ℤ q → k *ℤ t ≡ m *ℤ n +ℤ p *ℤ q → pos 0 <ℤ t
 by_four k t m n p q hk hm hn hp hq e =
@@ -81,14 +81,15 @@ edge_left o a b [] l t f d i = absurd i
 edge_left o a b (c ∷ cs) l t f d (inl e) = subst (λ x. pos 0 <ℤ turn a b x) (sym e) t.0
 edge_left o a b (c ∷ cs) l t f d (inr i) =
     by_four (turn o b c) (turn a b d) (turn o a b) (turn b c d) (turn o b d) (turn a b c) (All-in (λ x. pos 0 <ℤ turn o b x) (c ∷ cs) c l.1.0 (inl refl)) (All-in (λ x. pos 0 <ℤ turn o a x) (b ∷ c ∷ cs) b l.0 (inl refl))
-        (All-in (λ x. pos 0 <ℤ turn b c x) cs d f.0 i) (All-in (λ x. pos 0 <ℤ turn o b x) (c ∷ cs) d l.1.0 (inr i)) t.0 (four_first o a b c d)
+    (All-in (λ x. pos 0 <ℤ turn b c x) cs d f.0 i) (All-in (λ x. pos 0 <ℤ turn o b x) (c ∷ cs) d l.1.0 (inr i)) t.0 (four_first o a b c d)
 
 -- and so any two later corners stand counterclockwise about a
 about_first : (o a b : Spot) (cs : List Spot) → ((x : Spot) → In x cs → pos 0 <ℤ turn o a x) → ((x : Spot) → In x cs → pos 0 <ℤ turn o b x) → LeftAbout o cs → ((d : Spot) → In d cs → pos 0 <ℤ turn a b d) → LeftAbout b cs → LeftAbout a cs
 about_first o a b [] oa ob l e f = tt
-about_first o a b (x ∷ ds) oa ob l e f =
-    (All-from_in (λ d. pos 0 <ℤ turn a x d) ds (λ d i. by_four (turn o b x) (turn a x d) (turn o x d) (turn a b x) (turn o a x) (turn b x d) (ob x (inl refl)) (All-in (λ y. pos 0 <ℤ turn o x y) ds d l.0 i) (e x (inl refl)) (oa x (inl refl)) (All-in (λ y. pos 0 <ℤ turn b x y) ds d f.0 i) (four_last o a b x d)),
-     about_first o a b ds (λ y i. oa y (inr i)) (λ y i. ob y (inr i)) l.1 (λ d i. e d (inr i)) f.1)
+about_first o a b (x ∷ ds) oa ob l e f = (
+  All-from_in (λ d. pos 0 <ℤ turn a x d) ds (λ d i. by_four (turn o b x) (turn a x d) (turn o x d) (turn a b x) (turn o a x) (turn b x d) (ob x (inl refl)) (All-in (λ y. pos 0 <ℤ turn o x y) ds d l.0 i) (e x (inl refl)) (oa x (inl refl)) (All-in (λ y. pos 0 <ℤ turn b x y) ds d f.0 i) (four_last o a b x d)),
+  about_first o a b ds (λ y i. oa y (inr i)) (λ y i. ob y (inr i)) l.1 (λ d i. e d (inr i)) f.1,
+)
 
 pub any_three : (o : Spot) (vs : List Spot) → LeftAbout o vs → LocallyLeft vs → TurnsLeft vs
 any_three o [] l t = tt
@@ -96,7 +97,10 @@ any_three o (a ∷ []) l t = (tt, tt)
 any_three o (a ∷ b ∷ []) l t = ((All-nil (λ c. pos 0 <ℤ turn a b c), tt), (tt, tt))
 any_three o (a ∷ b ∷ c ∷ cs) l t =
     let rest = any_three o (b ∷ c ∷ cs) l.1 t.1 in
-    let edge = edge_left o a b (c ∷ cs) l t rest.0 in
-    ((All-from_in (λ d. pos 0 <ℤ turn a b d) (c ∷ cs) edge,
-      about_first o a b (c ∷ cs) (λ x i. All-in (λ y. pos 0 <ℤ turn o a y) (b ∷ c ∷ cs) x l.0 (inr i)) (λ x i. All-in (λ y. pos 0 <ℤ turn o b y) (c ∷ cs) x l.1.0 i) l.1.1 edge rest.0),
-     rest)
+    let edge = edge_left o a b (c ∷ cs) l t rest.0 in (
+      (
+        All-from_in (λ d. pos 0 <ℤ turn a b d) (c ∷ cs) edge,
+        about_first o a b (c ∷ cs) (λ x i. All-in (λ y. pos 0 <ℤ turn o a y) (b ∷ c ∷ cs) x l.0 (inr i)) (λ x i. All-in (λ y. pos 0 <ℤ turn o b y) (c ∷ cs) x l.1.0 i) l.1.1 edge rest.0,
+      ),
+      rest,
+    )

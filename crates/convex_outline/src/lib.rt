@@ -8,11 +8,12 @@
 //! contracts, and the other modules of `specs/` the geometry, from weights and turns to the polygon of any list.
 #![tactic(auto)]
 
-ghost use Rattle.std.specs.Prelude.{◌≡◌, [], reverse, IfOk, All, Contains, ◌<◌, ◌^◌, pos, ◌-ℤ◌, unsigned_abs, ◌↔◌};
+ghost use Rattle.std.specs.Prelude.{◌≡◌, List, [], reverse, IfOk, All, Contains, ◌<◌, ◌^◌, pos, ◌-ℤ◌, unsigned_abs, ◌↔◌};
 ghost use Rattle.seq_model.specs.declared.printer.Spot.{Spot};
 ghost use Rattle.seq_model.specs.Points.{Point};
 ghost use Rattle.seq_model.specs.Outlines.{Inner, Within};
-ghost use Rattle.convex_outline.specs.Corners.{turn, at_spot, AreCorners, IsNear};
+ghost use Rattle.convex_outline.specs.Corners.{turn, at_spot, AreCorners, AreEnds, HasArea, IsNear, NoThreeOnALine};
+ghost use Rattle.convex_outline.specs.EveryList.{HullOf};
 ghost use Rattle.convex_outline.specs.Chains.{fallen, grown, both_chains, IsRising, SameMembers};
 
 use integer_laws::{difference, wide_product};
@@ -103,6 +104,7 @@ pub fn hull(alloc: Global, spots: &[Spot]) -> Result<Vec<Spot>, NoMemory>
     ensures members { IfOk result (λ hull. All (Contains spots.now) hull.items) }
     ensures within { IfOk result (λ hull. All (λ s. Within hull.items (at_spot s)) spots.now) }
     ensures inner { IfOk result (λ hull. (q : Point) → Inner hull.items q ↔ Inner spots.now q) }
+    ensures ends { IfOk result (λ hull. (HasArea spots.now → ⊥) → AreEnds spots.now hull.items) }
 {
     let sorted = ascending(alloc, spots)?;
     if sorted.len() < 2 {
@@ -110,3 +112,17 @@ pub fn hull(alloc: Global, spots: &[Spot]) -> Result<Vec<Spot>, NoMemory>
     }
     Ok(corners_of(alloc, sorted)?)
 }
+
+/// Each list of spots, however far they lie, has corners of this kind: members, with every member within them and the same inner
+/// points. It is what a polygon of differences stands on, whose spots no list in memory holds.
+pub fn every_list_has_corners()
+    ensures { (spots : List Spot) → HullOf spots }
+{}
+
+/// Three different corners never lie on one line, wherever they stand in the list.
+pub fn no_three_corners_on_a_line()
+    ensures { (corners : List Spot) → AreCorners corners → NoThreeOnALine corners }
+{}
+
+#[cfg(test)]
+mod tests;
