@@ -1,12 +1,12 @@
 -- From the order of near spots to the corners of any list with the same members, and to the clauses of `hull`.
-use Rattle.std.proofs.Common.{◌≡◌, ◌<◌, ◌≤◌, List, length, arith, ℤ, pos, negsuc, neg_ℤ, ◌-ℤ◌, ◌≤ℤ◌, ◌<ℤ◌, All, Contains, unsigned_abs}
+use Rattle.std.proofs.Common.{◌<◌, ◌≤◌, List, length, arith, ℤ, pos, negsuc, neg_ℤ, ◌-ℤ◌, ◌≤ℤ◌, ◌<ℤ◌, All, Contains, unsigned_abs}
 use Rattle.std.specs.Prelude.{◌↔◌}
 use Rattle.std.proofs.lemmas.Int.{ints}
-use Rattle.integer_laws.specs.Members.{In, All-in, All-from_in, Contains-from_in}
+use Rattle.integer_laws.specs.Members.{All-in, All-from_in, Contains-from_in}
 use Rattle.seq_model.specs.declared.printer.Spot.{Spot}
 use Rattle.seq_model.specs.Points.{Point}
 use Rattle.seq_model.specs.Outlines.{Inner, Within}
-use Rattle.convex_outline.specs.Corners.{IsNear, AreCorners, at_spot}
+use Rattle.convex_outline.specs.Corners.{IsNear, at_spot}
 use Rattle.convex_outline.specs.Chains.{IsRising, SameMembers, both_chains}
 use Rattle.convex_outline.specs.Keeping.{Hull, keeps_as, short_hull}
 use Rattle.convex_outline.specs.EveryList.{Wide, rising_hull}

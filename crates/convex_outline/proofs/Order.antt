@@ -1,6 +1,6 @@
 -- The derived order and equality of spots.
-use Rattle.std.proofs.Common.{◌≡◌, ℕ, List, [], ◌∷◌, Contains, refl, ap, ap₂, sym, subst, ◌∙◌, arith, ℤ, pos, ◌<ℤ◌, ◌⊎◌, inl, inr, Bool, true, false, cond, Ordering, Less, Equal, Greater}
-use Rattle.std.specs.Ordering.{int_cmp, int_eq, on, then_cmp, eq_of_both, eq_by_cmp, ordering_then}
+use Rattle.std.proofs.Common.{◌≡◌, List, [], ◌∷◌, refl, ap, ap₂, sym, subst, ◌∙◌, arith, ℤ, ◌<ℤ◌, inl, inr, Bool, true, Ordering, Less, Equal, Greater}
+use Rattle.std.specs.Ordering.{int_cmp, int_eq, on, eq_of_both, eq_by_cmp, ordering_then}
 use Rattle.std.specs.List.Sorted.{IsStrictlySortedBy, IsSorted, IsPermutation}
 use Rattle.std.specs.List.{dedup}
 use Rattle.std.specs.Cmp.{IsTotalOrder, IsEquivalence}

@@ -7,17 +7,16 @@
 use Rattle.std.proofs.Common.{◌≡◌, List, [], ◌∷◌, ◌++◌, refl, ap, sym, subst, ◌∙◌, arith, ℤ, pos, neg_ℤ, ◌≤ℤ◌, ◌<ℤ◌, ◌⊎◌, inl, inr}
 use Rattle.std.proofs.lemmas.Int.{ints}
 use Rattle.std.proofs.lemmas.List.{append_assoc, append-nil, reverse-append}
-use Rattle.std.proofs.lemmas.List.Elements.{All-nil, All-cons}
+use Rattle.std.proofs.lemmas.List.Elements.{All-nil}
 use Rattle.std.specs.Prelude.{reverse}
 use Rattle.integer_laws.specs.Members.{In}
 use Rattle.seq_model.specs.declared.printer.Spot.{Spot}
-use Rattle.seq_model.specs.Points.{Point, IsPoint}
-use Rattle.seq_model.specs.Outlines.{Inner, Within}
+use Rattle.seq_model.specs.Outlines.{Within}
 use Rattle.convex_outline.specs.Corners.{turn, at_spot, LeftAbout, TurnsLeft, HasArea}
 use Rattle.convex_outline.specs.Chains.{fallen, grown, both_chains}
 use Rattle.convex_outline.specs.Vectors.{height, opposite, rising, falling, turn_round, turn_flipped}
 use Rattle.convex_outline.specs.Means.{inner_of_corners}
-use Rattle.convex_outline.specs.Polygons.{last_of, next_of, Steps, TurnsAlong, Seen, IsLeft, left_of_inner, inner_of_left}
+use Rattle.convex_outline.specs.Polygons.{next_of, Steps, TurnsAlong, Seen, IsLeft, left_of_inner, inner_of_left}
 use Rattle.convex_outline.specs.ChainLaws.{StepsUp, Rises, Bends, LeftOf, bottom, bottom_below, bends_all, Covers, Grown, Ascends, grown_all}
 use Rattle.convex_outline.specs.Closing.{rest_of, steps_on, first_step, all_left, in_rest, sharp, Chains, corners, corners_in, walk, turns_of, last_corner}
 use Rattle.convex_outline.specs.Inside.{FanTurns, FanAfter, fan_on, fan_low, from_bottom, inside}

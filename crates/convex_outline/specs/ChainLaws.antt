@@ -14,12 +14,11 @@ use Rattle.std.proofs.Common.{◌≡◌, List, [], ◌∷◌, ◌++◌, refl, ap
 use Rattle.std.proofs.lemmas.Int.{ints, by_lt_z}
 use Rattle.std.proofs.lemmas.List.{append_assoc, append-nil}
 use Rattle.std.specs.Prelude.{int_lt}
-use Rattle.integer_laws.specs.Ring.{expand}
 use Rattle.integer_laws.specs.Members.{In, In-append_cases, In-append_left, In-append_right}
 use Rattle.seq_model.specs.declared.printer.Spot.{Spot}
 use Rattle.convex_outline.specs.Corners.{turn}
 use Rattle.convex_outline.specs.Chains.{fallen, grown}
-use Rattle.convex_outline.specs.Vectors.{less, height, cross, cross_back, turn_on, turn_back, turn_turned, turn_start, turn_end, between, strictly_between, rises, rises_or_same}
+use Rattle.convex_outline.specs.Vectors.{less, height, cross_back, turn_on, turn_back, turn_turned, turn_start, turn_end, between, strictly_between, rises, rises_or_same}
 
 -- a chain that bends left at a and at b bends left at a, on the way to p
 pub bends_past : (hx hy : ℤ) (z a b p : Spot) → height hx hy z <ℤ height hx hy a → height hx hy a <ℤ height hx hy b → height hx hy b <ℤ height hx hy p

@@ -6,7 +6,7 @@
 --   Chains S a ls e us   what is known of both chains of S
 --   corners a ls e us    the closed way: t, up to b, and back
 --   corners_in           its corners are members; walk: each edge sees all of S; turns_of: it turns left at each corner
-use Rattle.std.proofs.Common.{◌≡◌, List, [], ◌∷◌, refl, sym, subst, ◌∙◌, arith, ℤ, pos, neg_ℤ, ◌+ℤ◌, ◌-ℤ◌, ◌*ℤ◌, ◌≤ℤ◌, ◌<ℤ◌, ◌⊎◌, inl, inr}
+use Rattle.std.proofs.Common.{◌≡◌, List, [], ◌∷◌, refl, sym, ◌∙◌, arith, ℤ, pos, neg_ℤ, ◌+ℤ◌, ◌-ℤ◌, ◌*ℤ◌, ◌≤ℤ◌, ◌<ℤ◌, ◌⊎◌, inl, inr}
 use Rattle.std.proofs.lemmas.Int.{ints, by_lt_z}
 use Rattle.integer_laws.specs.Ring.{expand}
 use Rattle.integer_laws.specs.Order.{le_from, lt_from, add_le, add_lt_le, le_of_same, mul_same, mul_nonneg, mul_positive, cancel_le}

@@ -13,7 +13,7 @@
 --   AreEnds S C         C are the first and the last member of S in that order, one if they are the same, none of no member
 --   HasArea S           three members turn left: they don't all lie on one line
 --   IsNear s            the coordinates of s are below 2^21 in size
-use Rattle.std.specs.Prelude.{◌≡◌, ℕ, ◌<◌, ◌^◌, List, [], ◌∷◌, ℤ, pos, ◌-ℤ◌, ◌*ℤ◌, ◌<ℤ◌, ◌⊎◌, unsigned_abs, All, Contains}
+use Rattle.std.specs.Prelude.{◌≡◌, ◌<◌, ◌^◌, List, [], ◌∷◌, ℤ, pos, ◌-ℤ◌, ◌*ℤ◌, ◌<ℤ◌, ◌⊎◌, unsigned_abs, All, Contains}
 use Rattle.integer_laws.specs.Members.{In}
 use Rattle.seq_model.specs.declared.printer.Spot.{Spot}
 use Rattle.seq_model.specs.Points.{Point}

@@ -10,8 +10,8 @@ use Rattle.integer_laws.specs.Ring.{expand}
 use Rattle.integer_laws.specs.Order.{mul_le}
 use Rattle.integer_laws.specs.Members.{In, All-from_in}
 use Rattle.seq_model.specs.declared.printer.Spot.{Spot}
-use Rattle.convex_outline.specs.Corners.{AreCorners, StartsLeast, IsBefore}
-use Rattle.convex_outline.specs.Chains.{RisesFrom, IsRising, SameMembers, both_chains}
+use Rattle.convex_outline.specs.Corners.{IsBefore}
+use Rattle.convex_outline.specs.Chains.{RisesFrom, IsRising, both_chains}
 use Rattle.convex_outline.specs.Vectors.{height}
 use Rattle.convex_outline.specs.ChainLaws.{Ascends}
 use Rattle.convex_outline.specs.Keeping.{Hull, keeps_as, short_hull}

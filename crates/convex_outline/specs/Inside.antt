@@ -9,7 +9,6 @@ use Rattle.std.proofs.Common.{◌≡◌, List, [], ◌∷◌, map, sym, arith, �
 use Rattle.std.proofs.lemmas.Int.{ints}
 use Rattle.integer_laws.specs.Ring.{expand}
 use Rattle.seq_model.specs.declared.printer.Spot.{Spot}
-use Rattle.seq_model.specs.Points.{Point, IsPoint}
 use Rattle.seq_model.specs.Outlines.{Within}
 use Rattle.convex_outline.specs.Corners.{turn, at_spot}
 use Rattle.convex_outline.specs.Vectors.{less, cross, corner, height, rises, turn_on, turn_apart, turn_start, strictly_between}

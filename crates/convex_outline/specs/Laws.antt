@@ -7,20 +7,19 @@
 --   area_of_three                   a list with three corners or more has area
 --   within_above, within_below      what is within corners from o on, or up to o, is not before o, or not after it
 --   ends_of_line                    the corners of a list without area are its ends
-use Rattle.std.proofs.Common.{◌≡◌, List, [], ◌∷◌, refl, sym, subst, ◌∙◌, arith, ℤ, pos, neg_ℤ, ◌+ℤ◌, ◌-ℤ◌, ◌*ℤ◌, ◌≤ℤ◌, ◌<ℤ◌, ◌⊎◌, inl, inr, All}
-use Rattle.std.proofs.lemmas.Int.{ints, by_lt_z}
+use Rattle.std.proofs.Common.{◌≡◌, List, [], ◌∷◌, refl, sym, subst, ◌∙◌, arith, ℤ, pos, neg_ℤ, ◌+ℤ◌, ◌-ℤ◌, ◌*ℤ◌, ◌≤ℤ◌, ◌<ℤ◌, ◌⊎◌, inl, inr}
+use Rattle.std.proofs.lemmas.Int.{ints}
 use Rattle.integer_laws.specs.Ring.{expand}
-use Rattle.integer_laws.specs.Order.{le_from, lt_from, add_le, le_of_same, mul_same, cancel_le}
+use Rattle.integer_laws.specs.Order.{le_from}
 use Rattle.integer_laws.specs.Members.{In, All-in, All-from_in, Contains-from_in}
-use Rattle.integer_laws.specs.Weights.{weigh, total, weigh_at_most, weigh-linear}
 use Rattle.seq_model.specs.declared.printer.Spot.{Spot}
 use Rattle.seq_model.specs.Points.{Point, IsPoint}
 use Rattle.seq_model.specs.Outlines.{Inner, Within}
-use Rattle.convex_outline.specs.Corners.{turn, turn_at, at_spot, IsBefore, StartsLeast, LeftAbout, TurnsLeft, AreCorners, HasArea, IsBetween, AreEnds}
+use Rattle.convex_outline.specs.Corners.{turn, at_spot, IsBefore, LeftAbout, TurnsLeft, HasArea, IsBetween, AreEnds}
 use Rattle.convex_outline.specs.Vectors.{height, opposite, turn_round, turn_flipped, turn_start, turn_end}
 use Rattle.convex_outline.specs.Means.{within_at_most}
-use Rattle.convex_outline.specs.Polygons.{last_of, next_of, Steps, TurnsAlong, Seen, IsLeft, left_of_inner, inner_of_left}
-use Rattle.convex_outline.specs.Keeping.{Keeps, Hull}
+use Rattle.convex_outline.specs.Polygons.{last_of, Steps, TurnsAlong, Seen, IsLeft, left_of_inner, inner_of_left}
+use Rattle.convex_outline.specs.Keeping.{Hull}
 use Rattle.convex_outline.specs.EveryList.{Bounded, bounded, Wide, wide_of, higher, Compared, compared}
 
 -- ---- no three on a line

@@ -15,8 +15,8 @@ use Rattle.integer_laws.specs.Order.{same_from, lt_from, add_same, add_le, add_l
 use Rattle.integer_laws.specs.Weights.{weigh, total, AreWeights, weigh-linear, weigh_constant, weigh_below, weigh_at_most, weigh-append, weigh_joined, length-weights, weights_joined, weights_front, weights_rest, total_nonneg}
 use Rattle.integer_laws.specs.Members.{In, In-append_right}
 use Rattle.seq_model.specs.declared.printer.Spot.{Spot}
-use Rattle.seq_model.specs.Points.{Point, IsPoint}
-use Rattle.seq_model.specs.Outlines.{IsMean, Inner, Within}
+use Rattle.seq_model.specs.Points.{Point}
+use Rattle.seq_model.specs.Outlines.{Inner, Within}
 use Rattle.convex_outline.specs.Corners.{at_spot}
 use Rattle.convex_outline.specs.Vectors.{height}
 

@@ -9,7 +9,7 @@
 --   left_of_edge        a point that is inner to S lies to the left of an edge that sees S, with some member to its left
 --   left_of_inner       so it lies to the left of each edge of a polygon that S lies in
 --   inner_of_left       and what lies to the left of each edge of a polygon is inner to its corners
-use Rattle.std.proofs.Common.{◌≡◌, List, [], ◌∷◌, map, refl, subst, arith, ℤ, pos, ◌+ℤ◌, ◌-ℤ◌, ◌*ℤ◌, ◌≤ℤ◌, ◌<ℤ◌, inl, inr}
+use Rattle.std.proofs.Common.{◌≡◌, List, [], ◌∷◌, map, refl, arith, ℤ, pos, ◌+ℤ◌, ◌-ℤ◌, ◌*ℤ◌, ◌≤ℤ◌, ◌<ℤ◌, inl, inr}
 use Rattle.std.proofs.lemmas.Int.{ints}
 use Rattle.integer_laws.specs.Ring.{expand}
 use Rattle.integer_laws.specs.Order.{lt_from, mul_positive}

@@ -4,11 +4,11 @@
 --   about_lowest        corners that go counterclockwise about o one by one, all above it, do so for any two
 --   LocallyLeft vs      the way along vs turns left at each corner between
 --   any_three           then any three of vs turn left
-use Rattle.std.proofs.Common.{◌≡◌, List, [], ◌∷◌, refl, sym, subst, arith, ℤ, pos, ◌+ℤ◌, ◌-ℤ◌, ◌*ℤ◌, ◌≤ℤ◌, ◌<ℤ◌, inl, inr, All}
+use Rattle.std.proofs.Common.{◌≡◌, List, [], ◌∷◌, refl, sym, subst, arith, ℤ, pos, ◌+ℤ◌, ◌-ℤ◌, ◌*ℤ◌, ◌≤ℤ◌, ◌<ℤ◌, inl, inr}
 use Rattle.std.proofs.lemmas.Int.{ints}
-use Rattle.std.proofs.lemmas.List.Elements.{All-nil, All-head, All-tail}
+use Rattle.std.proofs.lemmas.List.Elements.{All-nil}
 use Rattle.integer_laws.specs.Ring.{expand}
-use Rattle.integer_laws.specs.Order.{same_from, lt_from, add_lt_le, mul_positive, cancel_lt}
+use Rattle.integer_laws.specs.Order.{same_from, lt_from, mul_positive, cancel_lt}
 use Rattle.integer_laws.specs.Members.{In, All-in, All-from_in}
 use Rattle.seq_model.specs.declared.printer.Spot.{Spot}
 use Rattle.convex_outline.specs.Corners.{turn, LeftAbout, TurnsLeft}

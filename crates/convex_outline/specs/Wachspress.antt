@@ -7,7 +7,7 @@
 --   Turns u vs z        the way from u along vs to z turns left at each corner of vs
 --   final u vs          the last of u and vs
 --   inner_if_left       the theorem
-use Rattle.std.proofs.Common.{◌≡◌, ℕ, List, [], ◌∷◌, map, refl, ap, sym, subst, ◌∙◌, arith, ℤ, pos, neg_ℤ, ◌+ℤ◌, ◌-ℤ◌, ◌*ℤ◌, ◌≤ℤ◌, ◌<ℤ◌}
+use Rattle.std.proofs.Common.{◌≡◌, List, [], ◌∷◌, map, refl, ap, sym, ◌∙◌, arith, ℤ, pos, ◌+ℤ◌, ◌-ℤ◌, ◌*ℤ◌, ◌<ℤ◌}
 use Rattle.std.proofs.lemmas.Int.{ints}
 use Rattle.seq_model.specs.declared.printer.Spot.{Spot}
 use Rattle.integer_laws.specs.Ring.{expand, mul_assoc, mul_comm}
@@ -15,7 +15,7 @@ use Rattle.integer_laws.specs.Order.{one_le, same_from, mul_same, add_same, mul_
 use Rattle.integer_laws.specs.Weights.{weigh, total, AreWeights, weigh-map, weights_map, total_positive}
 use borrow.Author.Differences.{sum_is_lem, same_in}
 use Rattle.seq_model.specs.Points.{Point, IsPoint}
-use Rattle.seq_model.specs.Outlines.{IsMean, Inner}
+use Rattle.seq_model.specs.Outlines.{Inner}
 use Rattle.convex_outline.specs.Vectors.{cross, corner}
 
 abbrev pub next : List Spot → Spot → Spot

@@ -4,16 +4,21 @@ ghost use Rattle.convex_outline.specs.Corners.{IsNear};
 use super::*;
 use std::test::Fail;
 
-// Spots from small coordinates.
+fn spot(pair: &(i8, i8)) -> Spot
+    ensures { IsNear result }
+{
+    Spot {
+        x: i64::from(pair.0),
+        y: i64::from(pair.1),
+    }
+}
+
 fn spots(alloc: Global, pairs: &[(i8, i8)]) -> Result<Vec<Spot>, AllocError>
     ensures { IfOk result (λ spots. All IsNear spots.items) }
 {
     let mut spots = Vec::new(alloc);
     for pair in pairs {
-        spots.push(Spot {
-            x: i64::from(pair.0),
-            y: i64::from(pair.1),
-        })?;
+        spots.push(spot(pair))?;
     }
     Ok(spots)
 }

@@ -1,4 +1,4 @@
-use Rattle.std.proofs.Common.{◌≡◌, length, All, take, drop, []}
+use Rattle.std.proofs.Common.{◌≡◌, All, drop, []}
 use Rattle.std.specs.Prelude.{reverse}
 use Rattle.convex_outline.specs.Corners.{IsNear}
 use Rattle.convex_outline.specs.Chains.{grown}

@@ -1,10 +1,8 @@
-use Rattle.std.proofs.Common.{rules, ◌≡◌, ℕ, ◌<◌, ◌≤◌, ◌-◌, ◌+◌, arith, ap, sym, subst, ◌∙◌, length, get_or, take, take_all, pos, neg_ℤ, ◌-ℤ◌, ◌*ℤ◌, ◌≤ℤ◌, ◌<ℤ◌, All, to_z-of_z}
-use Rattle.std.specs.Prelude.{reverse, vec_len}
+use Rattle.std.proofs.Common.{◌-◌, arith, ◌∙◌, pos, ◌≤ℤ◌, ◌<ℤ◌}
+use Rattle.std.specs.Prelude.{vec_len}
 use Rattle.std.proofs.lemmas.List.Elements.{All-pop}
 use Rattle.std.proofs.lemmas.Int.{ints}
-use Rattle.seq_model.specs.declared.printer.Spot.{Spot}
 use Rattle.convex_outline.specs.Corners.{turn, IsNear}
-use Rattle.convex_outline.specs.Chains.{fallen}
 use Rattle.convex_outline.proofs.Reading.{falls, stays}
 use Rattle.convex_outline.proofs.fall_back.Goals as goal
 

@@ -1,9 +1,4 @@
-use Rattle.std.proofs.Common.{◌≡◌, ◌<◌, ◌≤◌, length, sym, subst, arith, All, Contains}
-use Rattle.std.specs.Prelude.{◌↔◌}
-use Rattle.seq_model.specs.Points.{Point}
-use Rattle.seq_model.specs.Outlines.{Inner, Within}
-use Rattle.convex_outline.specs.Corners.{AreCorners, at_spot}
-use Rattle.convex_outline.specs.Chains.{both_chains}
+use Rattle.std.proofs.Common.{◌<◌, ◌≤◌, length, sym, subst, arith}
 use Rattle.convex_outline.specs.Keeping.{Hull}
 use Rattle.convex_outline.specs.Laws.{ends_of_line}
 use Rattle.convex_outline.proofs.Nearness.{near_hull, alone_hull, members_of_hull, within_hull, inner_hull}
