@@ -211,5 +211,6 @@ one_mesh bytes fs gs m n =
     let read = ap first_line_at m.text ∙ first_line_again m.name rest m.named in
     let all : ReadAllFacets rest fs (last_line m.name) = record {
       read = record { done = m.millimetres; text = refl; triangles = m.triangles; few = m.few; are = m.is };
-      ended = last_line_no_facet m.name } in
+      ended = last_line_no_facet m.name;
+    } in
     m.is ∙ ap (map in_micrometres) (sym (ended bytes m.name rest (last_line m.name) fs gs read all n).same) ∙ sym n.is

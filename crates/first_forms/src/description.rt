@@ -171,5 +171,4 @@ pub fn read_description(alloc: Global, bytes: &[u8]) -> Result<Printer, Unread>
 /// No bytes describe two printers.
 pub fn one_description()
     ensures { (bytes : List ℕ) (d e : Description) → PrinterOf bytes d → PrinterOf bytes e → d ≡ e }
-{
-}
+{}

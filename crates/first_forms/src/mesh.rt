@@ -181,5 +181,4 @@ pub fn read_mesh(alloc: Global, bytes: &[u8]) -> Result<Mesh, Unread>
 /// No bytes are the text of two meshes.
 pub fn one_mesh()
     ensures { (bytes : List ℕ) (fs gs : List Facet) → MeshOf bytes fs → MeshOf bytes gs → fs ≡ gs }
-{
-}
+{}

@@ -15,7 +15,8 @@ use Rattle.seq_model.specs.Extremes.{least, greatest}
 use Rattle.seq_model.specs.Outlines.{below, above, four_spots, spots}
 use Rattle.seq_model.specs.Points.{Point}
 use Rattle.seq_model.specs.Scenes.{Scene, Between, SomeSpot, Spans, scene_of_files, description_of}
-use Rattle.lone_object.proofs.Members.{In, at_head, behind, contains_of, in_of, to_flat, to_map, all_in}
+use Rattle.integer_laws.specs.Members.{In, In-from_contains, In-map, All-in, All-from_in}
+use Rattle.lone_object.proofs.Members.{at_head, to_flat}
 use Rattle.lone_object.proofs.Running.{at, Running, Reaches, reaches_least, reaches_greatest, least_below, greatest_above}
 use Rattle.lone_object.proofs.InBand.{InBand, band_of}
 use Rattle.lone_object.proofs.Holding.{Around, AroundFacet, spot_below, spot_above, all_between}
@@ -42,7 +43,7 @@ corner_of v (f ∷ fs) (inr (inr (inr h))) = later v f fs (corner_of v fs h)
 
 vertex_from : (v : Point3) (f : Facet) (facets : List Facet) → In f facets → In v (three f) → In v (vertices facets)
 vertex_from v f [] h k = elim h [ ]
-vertex_from v f (g ∷ gs) (inl e) k = ahead (subst (λ t. In v (three t)) (sym e) k)
+vertex_from v f (g ∷ gs) (inl e) k = ahead (subst (λ t. In v (three t)) e k)
   where
     ahead : In v (three g) → In v (vertices (g ∷ gs))
     ahead (inl e) = inl e
@@ -54,17 +55,17 @@ vertex_from v f (g ∷ gs) (inr h) k = inr (inr (inr (vertex_from v f gs h k)))
 -- the extremes are round each vertex
 around : (facets : List Facet) (low high v : Point3) → Running facets [] low high → In v (vertices facets) → Around low high v
 around facets low high v kept m =
-    let x = contains_of _ _ (to_map (λ (p : Point3). p.x) v (vertices facets) m) in
-    let y = contains_of _ _ (to_map (λ (p : Point3). p.y) v (vertices facets) m) in
+    let x = In-map (λ (p : Point3). p.x) (vertices facets) v m in
+    let y = In-map (λ (p : Point3). p.y) (vertices facets) v m in
     record {
-      west = rw (kept.x.low_so_far) (All-contains (λ n. least (at (λ p. p.x) facets) ≤ℤ n) _ _ (least_below (at (λ p. p.x) facets)) x);
-      east = rw (kept.x.high_so_far) (All-contains (λ n. n ≤ℤ greatest (at (λ p. p.x) facets)) _ _ (greatest_above (at (λ p. p.x) facets)) x);
-      south = rw (kept.y.low_so_far) (All-contains (λ n. least (at (λ p. p.y) facets) ≤ℤ n) _ _ (least_below (at (λ p. p.y) facets)) y);
-      north = rw (kept.y.high_so_far) (All-contains (λ n. n ≤ℤ greatest (at (λ p. p.y) facets)) _ _ (greatest_above (at (λ p. p.y) facets)) y);
+      west = rw (kept.x.low_so_far) (All-in (λ n. least (at (λ p. p.x) facets) ≤ℤ n) _ _ (least_below (at (λ p. p.x) facets)) x);
+      east = rw (kept.x.high_so_far) (All-in (λ n. n ≤ℤ greatest (at (λ p. p.x) facets)) _ _ (greatest_above (at (λ p. p.x) facets)) x);
+      south = rw (kept.y.low_so_far) (All-in (λ n. least (at (λ p. p.y) facets) ≤ℤ n) _ _ (least_below (at (λ p. p.y) facets)) y);
+      north = rw (kept.y.high_so_far) (All-in (λ n. n ≤ℤ greatest (at (λ p. p.y) facets)) _ _ (greatest_above (at (λ p. p.y) facets)) y);
     }
 
 around_facets : (facets : List Facet) (low high : Point3) → Running facets [] low high → All (AroundFacet low high) facets
-around_facets facets low high kept = all_in (AroundFacet low high) facets (λ f m. record {
+around_facets facets low high kept = All-from_in (AroundFacet low high) facets (λ f m. record {
   a = around facets low high f.a kept (vertex_from f.a f facets m (inl refl));
   b = around facets low high f.b kept (vertex_from f.b f facets m (inr (inl refl)));
   c = around facets low high f.c kept (vertex_from f.c f facets m (inr (inr (inl refl))));
@@ -85,8 +86,8 @@ facet_there : (from to : ℤ) (v : Point3) (f : Facet) → In v (three f) → fr
 facet_there from to v f m h k =
     Contains-append_left (vertex_in from to f.a ++ (vertex_in from to f.b ++ vertex_in from to f.c)) (crossings from f ++ crossings to f) (point_of v) (which m)
   where
-    moved : (w : Point3) → w ≡ v → Contains (vertex_in from to w) (point_of v)
-    moved w e = subst (λ t. Contains (vertex_in from to t) (point_of v)) (sym e) (vertex_there from to v h k)
+    moved : (w : Point3) → v ≡ w → Contains (vertex_in from to w) (point_of v)
+    moved w e = subst (λ t. Contains (vertex_in from to t) (point_of v)) e (vertex_there from to v h k)
 
     which : In v (three f) → Contains (vertex_in from to f.a ++ (vertex_in from to f.b ++ vertex_in from to f.c)) (point_of v)
     which (inl e) = Contains-append_left (vertex_in from to f.a) _ _ (moved f.a e)
@@ -102,9 +103,9 @@ pub record Seen (grain step margin : ℤ) (facets : List Facet) (v : Point3) : T
 
 seen : (grain step margin : ℤ) (facets : List Facet) (v : Point3) → pos 0 <ℤ step → In v (vertices facets) → Seen grain step margin facets v
 seen grain step margin facets v p m =
-    let z = contains_of _ _ (to_map (λ (q : Point3). q.z) v (vertices facets) m) in
-    let low : least_z facets ≤ℤ v.z = All-contains (λ n. least (heights facets) ≤ℤ n) _ _ (least_below (heights facets)) z in
-    let high : v.z ≤ℤ greatest (heights facets) = All-contains (λ n. n ≤ℤ greatest (heights facets)) _ _ (greatest_above (heights facets)) z in
+    let z = In-map (λ (q : Point3). q.z) (vertices facets) v m in
+    let low : least_z facets ≤ℤ v.z = All-in (λ n. least (heights facets) ≤ℤ n) _ _ (least_below (heights facets)) z in
+    let high : v.z ≤ℤ greatest (heights facets) = All-in (λ n. n ≤ℤ greatest (heights facets)) _ _ (greatest_above (heights facets)) z in
     let b = band_of step (v.z -ℤ least_z facets) (height_of facets) p (omega (arith, ints, low)) (omega (arith, ints, high)) in
     let from = least_z facets +ℤ step *ℤ pos b.band in
     let o = corner_of v facets m in
@@ -112,7 +113,7 @@ seen grain step margin facets v p m =
     record {
       band = b.band;
       below_count = b.below_count;
-      four = λ s c. to_flat (four_spots grain margin) s (point_of v) (corners facets step b.band) (in_of _ _ there) c;
+      four = λ s c. to_flat (four_spots grain margin) s (point_of v) (corners facets step b.band) (In-from_contains (corners facets step b.band) (point_of v) there) c;
     }
 
 -- the first and the last of the four

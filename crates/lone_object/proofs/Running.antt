@@ -9,7 +9,8 @@ use Rattle.seq_model.specs.declared.mesh.Facet.{Facet}
 use Rattle.seq_model.specs.Bands.{vertices}
 use Rattle.seq_model.specs.Bounds.{IsNear, IsNearFacet}
 use Rattle.seq_model.specs.Extremes.{least, greatest}
-use Rattle.lone_object.proofs.Members.{In, behind, contains_of, in_of, from_map, all_flat}
+use Rattle.integer_laws.specs.Members.{In, In-from_contains, In-map_cases, All-in}
+use Rattle.lone_object.proofs.Members.{all_flat}
 
 -- the coordinates of the vertices
 abbrev pub at : (Point3 → ℤ) → List Facet → List ℤ
@@ -44,13 +45,13 @@ greatest_above [] = All-nil (λ n. n ≤ℤ pos 0)
 greatest_above (a ∷ ns) = greatest_around a ns
 
 -- the least is a member, where there is one
-pub least_reached : (ns : List ℤ) → 0 < length ns → Contains ns (least ns)
+pub least_reached : (ns : List ℤ) → 0 < length ns → In (least ns) ns
 least_reached [] h = absurd (omega (arith, h))
-least_reached (a ∷ ns) h = ⊎_elim (λ e. (0, omega arith, sym e)) (λ c. behind a ns _ c) (fold-int_min_reached a ns (least (a ∷ ns)) refl)
+least_reached (a ∷ ns) h = ⊎_elim (λ e. inl e) (λ c. inr (In-from_contains ns _ c)) (fold-int_min_reached a ns (least (a ∷ ns)) refl)
 
-pub greatest_reached : (ns : List ℤ) → 0 < length ns → Contains ns (greatest ns)
+pub greatest_reached : (ns : List ℤ) → 0 < length ns → In (greatest ns) ns
 greatest_reached [] h = absurd (omega (arith, h))
-greatest_reached (a ∷ ns) h = ⊎_elim (λ e. (0, omega arith, sym e)) (λ c. behind a ns _ c) (fold-int_max_reached a ns (greatest (a ∷ ns)) refl)
+greatest_reached (a ∷ ns) h = ⊎_elim (λ e. inl e) (λ c. inr (In-from_contains ns _ c)) (fold-int_max_reached a ns (greatest (a ∷ ns)) refl)
 
 -- a mesh with a facet has a vertex
 pub some_vertex : (coordinate : Point3 → ℤ) (facets : List Facet) → 0 < length facets → 0 < length (at coordinate facets)
@@ -72,18 +73,18 @@ pub record Reaches (coordinate : Point3 → ℤ) (facets : List Facet) (n : ℤ)
 
 pub reaches_least : (coordinate : Point3 → ℤ) (facets : List Facet) → 0 < length facets → Reaches coordinate facets (least (at coordinate facets))
 reaches_least coordinate facets some =
-    let m = from_map coordinate (least (at coordinate facets)) (vertices facets) (in_of _ _ (least_reached (at coordinate facets) (some_vertex coordinate facets some))) in
-    record { vertex = m.0; member = m.1; is = m.2 }
+    let m = In-map_cases coordinate (vertices facets) (least (at coordinate facets)) (least_reached (at coordinate facets) (some_vertex coordinate facets some)) in
+    record { vertex = m.0; member = m.1; is = sym m.2 }
 
 pub reaches_greatest : (coordinate : Point3 → ℤ) (facets : List Facet) → 0 < length facets → Reaches coordinate facets (greatest (at coordinate facets))
 reaches_greatest coordinate facets some =
-    let m = from_map coordinate (greatest (at coordinate facets)) (vertices facets) (in_of _ _ (greatest_reached (at coordinate facets) (some_vertex coordinate facets some))) in
-    record { vertex = m.0; member = m.1; is = m.2 }
+    let m = In-map_cases coordinate (vertices facets) (greatest (at coordinate facets)) (greatest_reached (at coordinate facets) (some_vertex coordinate facets some)) in
+    record { vertex = m.0; member = m.1; is = sym m.2 }
 
 -- a coordinate that is reached is near
 pub reached_near : (coordinate : Point3 → ℤ) (facets : List Facet) (n : ℤ) → ((p : Point3) → IsNear p → unsigned_abs (coordinate p) ≤ 10_000_000) → All IsNearFacet facets → Reaches coordinate facets n → unsigned_abs n ≤ 10_000_000
 reached_near coordinate facets n says near r =
-    subst (λ t. unsigned_abs t ≤ 10_000_000) r.is (says r.vertex (All-contains IsNear (vertices facets) r.vertex (all_near facets near) (contains_of _ _ r.member)))
+    subst (λ t. unsigned_abs t ≤ 10_000_000) r.is (says r.vertex (All-in IsNear (vertices facets) r.vertex (all_near facets near) r.member))
 
 -- after the last facet nothing is to come
 pub ended : (facets : List Facet) (i : ℕ) (low high : Point3) → length facets ≤ i → Running facets (drop i facets) low high → Running facets [] low high

@@ -1,7 +1,7 @@
 -- A sink in memory that never fails: what it keeps, and whether it was given more than its room.
 --
---   goes_over s piece      == the sink was given more than its room, with this piece at the latest
---   after_sure_write s piece == the sink after a write of that piece
+--   goes_over s piece          == the sink was given more than its room, with this piece at the latest
+--   after_sure_write s piece   == the sink after a write of that piece
 use Rattle.std.specs.Prelude.{ℕ, ◌-◌, List, length, ◌++◌, Bool, ◌||◌, nat_lt, if◌then◌else◌}
 
 pub record SureTaken : Type 0 where

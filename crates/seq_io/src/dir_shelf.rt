@@ -1,11 +1,11 @@
-ghost use Rattle.std.specs.Prelude.{◌≡◌, string_bytes, is_err, None, Some, false};
+ghost use Rattle.std.specs.Prelude.{◌≡◌, string_bytes, is_err, None, Some, false, IfOk, OnErr, IsErr};
 ghost use Rattle.std.specs.Io.{ReadsAtMost};
 ghost use Rattle.seq_io.specs.Counts.{raised, HasCause};
 
 use crate::{Failed, Shelf};
 use owned_lists::Text;
 use std::fs::File;
-use std::io::Read;
+use std::io::{self, Read};
 use std::marker::Model;
 
 /// The files of the system, by their paths from the current folder. What they hold isn't told.
@@ -38,6 +38,23 @@ impl DirShelf {
             faults: 0,
         }
     }
+
+    // Answers as the system did, and counts its failures.
+    fn noted<T>(&mut self, outcome: io::Result<T>) -> Result<T, Failed>
+        ensures ok { IfOk outcome (λ x. result ≡ Ok x) }
+        ensures err { OnErr outcome (IsErr result) }
+        ensures state { self.new ≡ record self.old {
+          broken = is_err result;
+          faults = raised (is_err result) self.old.faults;
+        } }
+        ensures cause { HasCause self.old.faults self.new.faults result }
+    {
+        self.broken = outcome.is_err();
+        if self.broken {
+            self.faults = self.faults.saturating_add(1);
+        }
+        outcome.map_err(|_| Failed)
+    }
 }
 
 impl Shelf for DirShelf {
@@ -61,13 +78,10 @@ impl Shelf for DirShelf {
         } }
         ensures cause { HasCause self.old.faults self.new.faults result }
     {
-        self.file = File::open(&self.rt, name.as_str()).ok();
+        let opened = File::open(&self.rt, name.as_str());
         self.named = Some(Text::from_string(name));
-        self.broken = self.file.is_none();
-        if self.broken {
-            self.faults = self.faults.saturating_add(1);
-            return Err(Failed);
-        }
+        self.file = None;
+        self.file = Some(self.noted(opened)?);
         Ok(())
     }
 
@@ -79,15 +93,11 @@ impl Shelf for DirShelf {
         } }
         ensures cause { HasCause self.old.faults self.new.faults result }
     {
-        self.broken = false;
         let Some(file) = &mut self.file else {
+            self.broken = false;
             return Ok(0);
         };
-        let Ok(count) = file.read(buf) else {
-            self.broken = true;
-            self.faults = self.faults.saturating_add(1);
-            return Err(Failed);
-        };
-        Ok(count)
+        let read = file.read(buf);
+        self.noted(read)
     }
 }

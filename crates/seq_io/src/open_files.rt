@@ -5,7 +5,7 @@ ghost use Rattle.seq_io.specs.OpenFiles.{bytes_at, rest_of};
 use crate::MemFile;
 use std::marker::Model;
 
-// Files in memory, of which one at a time is open: the place of that one, and how many of its bytes were given.
+/// Files in memory, of which one at a time is open: the place of that one, and how many of its bytes were given.
 #[derive(Debug, Drop)]
 pub struct OpenFiles {
     files: Vec<MemFile>,
@@ -32,7 +32,7 @@ impl OpenFiles {
         }
     }
 
-    // Opens the first file of that name, if there is one, and says whether there is.
+    /// Opens the first file of that name, if there is one, and says whether there is.
     pub fn open(&mut self, name: &str) -> bool
         ensures found { result ≡ has_file self.old.files name.now }
         ensures state { self.new ≡ record { files = self.old.files; rest = bytes_of self.old.files name.now } }
@@ -42,13 +42,14 @@ impl OpenFiles {
         self.at.is_some()
     }
 
+    /// Leaves no file open.
     pub fn close(&mut self)
         ensures { self.new ≡ record { files = self.old.files; rest = [] } }
     {
         self.at = None;
     }
 
-    // Gives the next bytes of the open file, as many as there are, fit and are wanted, and says how many.
+    /// Gives the next bytes of the open file, as many as there are, fit and are wanted, and says how many.
     pub fn give(&mut self, to: &mut [u8], most: usize) -> usize
         ensures count { result ≡ min (min (length self.old.rest) (length to.old)) most }
         ensures bytes { take result to.new ≡ take result self.old.rest }

@@ -69,10 +69,11 @@ pub fn read_all<S: Shelf>(
     ensures bytes { IfOk result (λ v. GivesFile (S.files shelf.old) (string_bytes name) v.items) }
     ensures within { IfOk result (λ v. vec_len v ≤ limit) }
     ensures too_long { result ≡ Err ReadAll.TooLong → LongerThan limit (S.files shelf.old) (string_bytes name) }
-    ensures fault { result ≡ Err ReadAll.ReadFault → Rose (S.faults shelf.old) (S.faults shelf.new) }
 
     // A failed call of the shelf is answered as a fault, and nothing else is.
+    ensures fault { result ≡ Err ReadAll.ReadFault → Rose (S.faults shelf.old) (S.faults shelf.new) }
     ensures broken { IsTrue (S.broken shelf.new) ↔ (result ≡ Err ReadAll.ReadFault) }
+
     ensures named { S.named shelf.new ≡ Some (string_bytes name) }
     ensures files { S.files shelf.new ≡ S.files shelf.old }
     ensures later { S.faults shelf.old ≤ S.faults shelf.new }
@@ -105,10 +106,13 @@ fn read_piece<S: Shelf>(
     requires filled { filled ≤ vec_len bytes.old }
     requires within { filled ≤ limit }
     requires whole { S.broken shelf.old ≡ false }
+
+    // What was read stays, and behind it stand the next bytes of the file, none only at its end.
     ensures front { take filled bytes.new.items ≡ take filled bytes.old.items }
     ensures fits { IfOk result (λ n. filled + n ≤ vec_len bytes.new) }
     ensures read { IfOk result (λ n. Consumes (S.rest shelf.old) (S.rest shelf.new) (take n (drop filled bytes.new.items))) }
     ensures end { IfOk result (λ n. n ≡ 0 → IsAtEnd (S.rest shelf.new)) }
+
     ensures fault { result ≡ Err ReadAll.ReadFault → Rose (S.faults shelf.old) (S.faults shelf.new) }
     ensures broken { IsTrue (S.broken shelf.new) ↔ (result ≡ Err ReadAll.ReadFault) }
     ensures short { result ≡ Err ReadAll.TooLong → ⊥ }

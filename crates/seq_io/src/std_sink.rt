@@ -1,9 +1,10 @@
-ghost use Rattle.std.specs.Prelude.{◌≡◌, ◌<◌, length, None, is_err, IfOk};
+ghost use Rattle.std.specs.Prelude.{◌≡◌, ◌<◌, length, None, Some, is_err, IfOk};
+ghost use Rattle.std.specs.Result.{result_ok};
 ghost use Rattle.std.specs.Io.{WritesAtMost};
 ghost use Rattle.seq_io.specs.Counts.{raised, HasCause};
 
 use crate::{Failed, Sink};
-use std::io::{Stderr, Stdout, Write};
+use std::io::{self, Stderr, Stdout, Write};
 use std::marker::Model;
 
 #[derive(Drop)]
@@ -45,6 +46,22 @@ impl StdSink {
             faults: 0,
         }
     }
+
+    // Answers as the system did, and counts its failures. To take nothing of a piece is one.
+    fn noted(&mut self, wrote: io::Result<usize>) -> Result<usize, Failed>
+        ensures ok { IfOk wrote (λ n. 0 < n → result ≡ Ok n) }
+        ensures some { IfOk result (λ n. (0 < n) × (result_ok wrote ≡ Some n)) }
+        ensures state { self.new ≡ raised (is_err result) self.old }
+        ensures cause { HasCause self.old self.new result }
+    {
+        match wrote {
+            Ok(count) if count > 0 => Ok(count),
+            _ => {
+                self.faults = self.faults.saturating_add(1);
+                Err(Failed)
+            }
+        }
+    }
 }
 
 impl Sink for StdSink {
@@ -66,12 +83,6 @@ impl Sink for StdSink {
             Stream::Out(to) => to.write(piece),
             Stream::Err(to) => to.write(piece),
         };
-        match wrote {
-            Ok(count) if count > 0 => Ok(count),
-            _ => {
-                self.faults = self.faults.saturating_add(1);
-                Err(Failed)
-            }
-        }
+        self.noted(wrote)
     }
 }

@@ -42,7 +42,8 @@ crossing_up height p q =
     then record {
       x = p.x *ℤ (q.z -ℤ height) +ℤ q.x *ℤ (height -ℤ p.z);
       y = p.y *ℤ (q.z -ℤ height) +ℤ q.y *ℤ (height -ℤ p.z);
-      d = q.z -ℤ p.z } ∷ []
+      d = q.z -ℤ p.z;
+    } ∷ []
     else []
 
 -- where an edge crosses a height, whichever of its ends lies below it

@@ -132,7 +132,7 @@ pub record LiesIn (region : Region) (scale : ℤ) (place : Place) (s : Spot) : T
 abbrev pub In : Scene → ℕ → Plan → Type 0
 In scene e plan =
     All (λ (place : Place). (b : ℕ) → b < scene.bands place.object
-        → All (LiesIn (region_of scene.width scene.depth scene.grid e) plan.scale place) (scene.spots place.object b)) plan.places
+    → All (LiesIn (region_of scene.width scene.depth scene.grid e) plan.scale place) (scene.spots place.object b)) plan.places
 
 -- places stand in printing order: the objects each once, in the region, and no earlier one collides with a later one
 pub record Valid (scene : Scene) (e : ℕ) (plan : Plan) : Type 0 where

@@ -1,4 +1,4 @@
-pub mod Division
+pub mod Nearest
 pub mod Spelling
 pub mod Reading
 pub mod Laws

@@ -1,5 +1,5 @@
 ghost use Rattle.std.specs.Prelude.{◌≡◌, ◌^◌, ◌<◌, ◌≤◌, pos, ◌≤ℤ◌, unsigned_abs};
-ghost use Rattle.seq_num.specs.Division.{floor, ceil, IsFloor, IsCeil};
+ghost use Rattle.integer_laws.specs.Quotients.{floor, ceil, IsFloor, IsCeil};
 
 /// `a / d`, rounded down.
 pub fn floor_div(a: i128, d: i128) -> i128

@@ -1,19 +1,24 @@
-//! Whole numbers: exact division that rounds, the one decimal spelling of a number, and the first readers of texts.
+//! Whole numbers: exact division that rounds, common divisors, the one decimal spelling of a number, and the first
+//! readers of texts.
 //!
-//! A quotient is pinned twice: as the word of std that computes it, and by what it means, as
-//! `d * q <= a < d * q + d` for the one rounded down. That some bytes spell a number is a definition apart from the
-//! code: `read_int` answers None exactly for bytes that spell none, and no bytes spell two numbers.
-//! The readers of the front of a text, `literal` and `whole`, are functions on lists with laws both ways, of which
-//! the readers of descriptions, meshes and plans are made.
+//! A quotient rounded down or up is pinned twice: as the word of std that computes it, and by what it means, as
+//! `d * q <= a < d * q + d`. `near_div`, `gcd` and `primitive` are pinned by what they mean, with laws that no other
+//! number fits. That some bytes spell a number is a definition apart from the code: `read_int` answers None exactly for
+//! bytes that spell none, and no bytes spell two numbers. The readers of the front of a text, `literal` and `whole`, are
+//! functions on lists with laws both ways, of which the readers of descriptions, meshes and plans are made.
 //!
-//! This is the lowest crate: all others count, divide and read with it. No call takes memory.
+//! Only the laws of the integers lie below: all other crates count, divide and read with this one. No call takes memory.
 #![tactic(auto)]
 
 mod division;
+mod divisors;
+mod nearest;
 mod reading;
 mod whole_numbers;
 
 pub use division::{ceil_div, floor_div};
+pub use divisors::{gcd, primitive};
+pub use nearest::near_div;
 pub use reading::{literal, whole};
 use std::alloc::AllocError;
 pub use whole_numbers::{one_spelling, read_int, spelling_digits, write_int};
@@ -35,9 +40,28 @@ mod tests {
 
     #[test]
     fn quotients_are_rounded(rt: HostRuntime) {
-        for (a, d, down, up) in [(7, 2, 3, 4), (-7, 2, -4, -3), (-8, 2, -4, -4), (0, 5, 0, 0)] {
+        let cases = [
+            (7, 2, 3, 4, 4),
+            (-7, 2, -4, -3, -4),
+            (-8, 2, -4, -4, -4),
+            (0, 5, 0, 0, 0),
+            (4, 3, 1, 2, 1),
+            (-5, 3, -2, -1, -2),
+        ];
+        for (a, d, down, up, near) in cases {
             assert_eq!(rt; floor_div(a, d), down);
             assert_eq!(rt; ceil_div(a, d), up);
+            assert_eq!(rt; near_div(a, d), near);
+        }
+    }
+
+    #[test]
+    fn common_divisors_fall_out(rt: HostRuntime) {
+        for (a, b, divisor) in [(0, 0, 0), (0, -6, 6), (12, -18, 6), (-17, 5, 1), (-4, 0, 4)] {
+            assert_eq!(rt; gcd(a, b), divisor);
+        }
+        for (x, y, shortest) in [(6, -4, (3, -2)), (0, -7, (0, -1)), (-9, 3, (-3, 1))] {
+            assert_eq!(rt; primitive(x, y), shortest);
         }
     }
 

@@ -66,7 +66,12 @@ fn read_line(alloc: Global, name: &str) -> Result<Vec<u8>, AllocError>
     Ok(line)
 }
 
-fn input_line(alloc: Global, name: &str, file: NamedFile, cause: Cause) -> Result<Vec<u8>, AllocError>
+fn input_line(
+    alloc: Global,
+    name: &str,
+    file: NamedFile,
+    cause: Cause,
+) -> Result<Vec<u8>, AllocError>
     ensures { IfOk result (λ line. line.items ≡ input_line name.now file cause) }
 {
     let mut line = Vec::from_slice(alloc, b"input: ")?;
@@ -74,6 +79,18 @@ fn input_line(alloc: Global, name: &str, file: NamedFile, cause: Cause) -> Resul
     line.extend_from_slice(b": ")?;
     line.extend_from_slice(detail_of(file, cause))?;
     Ok(line)
+}
+
+// The line of a stop.
+fn line_of(alloc: Global, words: &[String], stop: Stop) -> Result<Vec<u8>, AllocError>
+    ensures { IfOk result (λ line. line.items ≡ line_of (texts words.now) stop) }
+{
+    match stop {
+        Stop::Words(refusal) => Vec::from_slice(alloc, words_line(refusal)),
+        Stop::Read(file) => read_line(alloc, name_of(words, file)),
+        Stop::Input(file, cause) => input_line(alloc, name_of(words, file), file, cause),
+        Stop::Memory => Vec::from_slice(alloc, b"memory\n"),
+    }
 }
 
 // Writes a line for a stop.
@@ -89,8 +106,8 @@ fn send<E: Sink>(err: &mut E, line: &[u8], stop: Stop) -> Result<Stop, Stop>
     }
 }
 
-/// Writes the line of a stop, and gives the stop that was told: where a line that names a file finds no
-/// memory, want of memory is told in its place. The other lines take none.
+/// Writes the line of a stop, and gives the stop that was told: where its line finds no memory, want of
+/// memory is told in its place, which takes none.
 pub fn tell<E: Sink>(alloc: Global, words: &[String], stop: Stop, err: &mut E) -> Result<Stop, Stop>
     ensures told { MatchResult result (λ told. (told ≡ stop) ⊎ (told ≡ Stop.Memory)) (λ told. (told ≡ stop) ⊎ (told ≡ Stop.Memory)) }
     ensures words { (refusal : WordsRefusal) → stop ≡ Stop.Words refusal → MatchResult result (λ told. told ≡ stop) (λ told. told ≡ stop) }
@@ -98,13 +115,11 @@ pub fn tell<E: Sink>(alloc: Global, words: &[String], stop: Stop, err: &mut E) -
     ensures part { IfErr result (λ told. TookPart (E.taken err.old) (E.taken err.new) (line_of (texts words.now) told)) }
     ensures cause { HasCause (E.faults err.old) (E.faults err.new) result }
 {
-    let made = match stop {
-        Stop::Words(refusal) => return send(err, words_line(refusal), stop),
-        Stop::Memory => return send(err, b"memory\n", stop),
-        Stop::Read(file) => read_line(alloc, name_of(words, file)),
-        Stop::Input(file, cause) => input_line(alloc, name_of(words, file), file, cause),
-    };
-    match made {
+    // Refused words are told without memory.
+    if let Stop::Words(refusal) = stop {
+        return send(err, words_line(refusal), stop);
+    }
+    match line_of(alloc, words, stop) {
         Ok(line) => send(err, &line, stop),
         Err(_) => send(err, b"memory\n", Stop::Memory),
     }

@@ -112,9 +112,7 @@ pub fn run<S: Shelf, O: Sink, E: Sink>(
     ensures silent { (result ≡ 2) ⊎ (result ≡ 3) ⊎ (result ≡ 4) ⊎ (result ≡ 9) → O.taken out.new ≡ O.taken out.old }
 {
     match work(alloc, words, shelf) {
-        Ok(text) => {
-            if write_all(out, &text).is_err() { 8 } else { 0 }
-        }
+        Ok(text) => { if write_all(out, &text).is_err() { 8 } else { 0 } }
         Err(stop) => match tell(alloc, words, stop, err) {
             Ok(told) => status_of(told),
             Err(_) => 8,

@@ -1,4 +1,10 @@
 -- The laws of the readers, both ways: what they take is what is written, and what is written they take.
+--
+--   step_some        what a step of a chain of readers gave, where the chain gave something
+--   literal_takes    the bytes begin with the text
+--   literal_again    the text is taken from its front; literal_alone, where nothing follows
+--   whole_takes      the bytes begin with the spelling of the number, and no digit follows it
+--   whole_again      a number's spelling is taken from its front, where no digit follows it
 use Rattle.std.specs.Prelude.{◌≡◌, ℕ, ◌+◌, ◌<◌, ◌^◌, ℤ, pos, negsuc, suc, unsigned_abs, List, [], ◌∷◌, ◌++◌, length, take, drop, Bool, true, false, Option, Some, None, option_and_then, decimal, refl}
 use Rattle.std.proofs.Common.{sym, ap, ◌∙◌, arith, cond, eqb, get_or, add-one}
 use Rattle.std.proofs.lemmas.List.{take-append-drop, take_at, drop_at, append-nil, get_or_append_left}

@@ -1,4 +1,9 @@
--- The laws of spellings: a number has one, and `number_of` is what the bytes spell.
+-- The laws of spellings.
+--
+--   number_spells    `number_of` gives a number that the bytes spell
+--   number_again     `number_of` gives the number back from its spelling
+--   number_is        a reader's two outcomes are those of `number_of`
+--   guard_some       what a test let through, where it gave something
 use Rattle.std.specs.Prelude.{◌≡◌, ℕ, suc, ◌<◌, ◌^◌, ℤ, pos, negsuc, neg_ℤ, unsigned_abs, List, Bool, true, false, ◌&&◌, nat_lt, Option, Some, None, IfSome, IfNone, decimal, refl}
 use Rattle.std.proofs.Common.{sym, ap, ◌∙◌, arith, get_or, cond, eqb, subst}
 use Rattle.std.proofs.lemmas.Slice.Eq.{bytes_eq-Decides}

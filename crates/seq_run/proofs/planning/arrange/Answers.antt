@@ -7,8 +7,8 @@ use Rattle.seq_run.proofs.planning.arrange.Goals as goal
 pub returns-in_default-clause-not_yet : goal.returns-in_default-clause-not_yet
 returns-in_default-clause-not_yet c = λ _.
     (let measure = c.measure_object-measure.result in
-     let spans = spans_of c.args.printer.now c.as_slice.result.now c.args.mesh.now.facets measure.low measure.high c.as_slice.ensures c.measure_object-measure.ensures.spans in
-     not_arrangeable c.args.printer.now c.args.mesh.now.facets measure.low measure.high spans (λ fits. absurd (cc (c.in_default.ensures.fits.1 fits))))
+    let spans = spans_of c.args.printer.now c.as_slice.result.now c.args.mesh.now.facets measure.low measure.high c.as_slice.ensures c.measure_object-measure.ensures.spans in
+    not_arrangeable c.args.printer.now c.args.mesh.now.facets measure.low measure.high spans (λ fits. absurd (cc (c.in_default.ensures.fits.1 fits))))
 
 pub returns-in-Ok-clause-found : goal.returns-in-Ok-clause-found
 returns-in-Ok-clause-found c =

@@ -19,7 +19,7 @@ returns-in-Err-read_mesh-clause-why g c =
     let read : Read files a printer d = record { gives = search rules; short = search rules; is = is } in
     let gives : GivesFile files a.mesh mesh = search rules in
     refused_mesh files a c.in-Err-read_mesh.cause c.refused-in-Err-read_mesh.result c.refused-in-Err-read_mesh.ensures.not_yet c.refused-in-Err-read_mesh.ensures.memory
-      (λ e. (let none : IsNoMesh mesh = subst IsNoMesh c.deref-2.ensures.value (c.in-Err-read_mesh.ensures.not_yet (ap Err e)) in no_mesh_for files a printer mesh d read gives (search rules) (none_at_all d mesh none)))
+    (λ e. (let none : IsNoMesh mesh = subst IsNoMesh c.deref-2.ensures.value (c.in-Err-read_mesh.ensures.not_yet (ap Err e)) in no_mesh_for files a printer mesh d read gives (search rules) (none_at_all d mesh none)))
 
 pub returns-in-Ok-arrange-clause-found : goal.returns-in-Ok-arrange-clause-found
 returns-in-Ok-arrange-clause-found g c =

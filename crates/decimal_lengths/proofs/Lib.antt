@@ -1,0 +1,10 @@
+pub mod Gathering
+pub mod Running
+pub mod KindLaws
+pub mod Coming
+pub mod Following
+pub mod SizeLaws
+pub mod Measuring
+pub mod Refusing
+pub mod Answering
+pub mod SpellingLaws

@@ -1,0 +1,6 @@
+pub mod Decimals
+pub mod Lengths
+pub mod Refusals
+pub mod Spelling
+pub mod Scanning
+pub mod Sizes

@@ -1,0 +1,37 @@
+ghost use Rattle.std.specs.Prelude.{ℕ, ◌≤◌, List, take};
+
+use std::marker::Model;
+
+/// Objects of which each is ordered before the next one, and the last before the first.
+///
+/// They are the first `len` of `objects`.
+#[derive(Debug, Drop)]
+pub struct Cycle {
+    pub len: u32,
+    pub objects: [u32; 16],
+}
+
+impl Model for Cycle {
+    ghost Value = { List ℕ };
+
+    ghost view = { λ c. take c.len c.objects };
+
+    ghost invariant = { λ c. c.len ≤ 16 };
+}
+
+/// All objects of a graph, first the one that comes first.
+///
+/// They are the first `len` of `objects`.
+#[derive(Debug, Drop)]
+pub struct Order {
+    pub len: u32,
+    pub objects: [u32; 16],
+}
+
+impl Model for Order {
+    ghost Value = { List ℕ };
+
+    ghost view = { λ o. take o.len o.objects };
+
+    ghost invariant = { λ o. o.len ≤ 16 };
+}

@@ -1,0 +1,21 @@
+//! Which of up to 16 objects is printed before which.
+//!
+//! A search that orders one pair of objects after the other keeps its orders in an `OrderGraph`: `add` takes an order
+//! unless it would close a cycle, `undo` takes the last one back, and `complete` puts all objects in an order that
+//! keeps the held orders and those that are forced besides, or finds a cycle of them.
+//!
+//! Each contract says both sides. `add` refuses an order exactly where the orders held lead the other way (`Leads`);
+//! `complete` answers an order (`IsOrder`) exactly where there is one, and a cycle (`IsCycle`) exactly where there is
+//! one. These words stand in `specs/Orders.antt`. No call takes memory, and the crate stands on no other.
+//!
+//! The search for places stands on it: an order becomes the order of the plan, a cycle a leaf of the certificate.
+#![tactic(auto)]
+
+mod answers;
+mod graph;
+mod leading;
+mod placing;
+mod way;
+
+pub use answers::{Cycle, Order};
+pub use graph::OrderGraph;
