@@ -4,7 +4,7 @@ ghost use Rattle.seq_model.specs.Parts.{AreParts};
 use owned_lists::{Items, Text};
 
 /// A point of the lattice, in grains.
-#[derive(Clone, Copy, Debug, PartialEq, Eq)]
+#[derive(Clone, Copy, Debug, PartialEq, Eq, PartialOrd, Ord)]
 pub struct Spot {
     pub x: i64,
     pub y: i64,

@@ -1,0 +1,3 @@
+mod Nearness
+mod Reading
+mod Order
