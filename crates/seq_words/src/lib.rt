@@ -9,3 +9,6 @@ mod usage;
 
 pub use command::{Command, Opt, Words};
 pub use reading::read;
+
+#[cfg(test)]
+mod tests;
