@@ -5,15 +5,13 @@
 --   number_or opt n        the number, or else that of opt is bad
 --   budget_in rows         the value of `--budget`, or the default budget
 --   meshes_in rows         the names of at most 16 meshes
-use Rattle.std.specs.Prelude.{ℕ, List, [], ◌∷◌, Option, Some, None, codes, Result, Ok, Err, if◌then◌else◌, nat_le, length}
+--   IsWithinLimits c       the numbers of the command and the count of its meshes are within their limits, which follows from asked
+use Rattle.std.specs.Prelude.{ℕ, ◌≤◌, ◌<◌, ◌^◌, ⊤, List, [], ◌∷◌, Option, Some, None, codes, Result, Ok, Err, if◌then◌else◌, nat_le, length}
 use Rattle.std.specs.Str.{bytes_eq}
 use Rattle.clap.specs.Words.{Row, Text, first_of}
 use Rattle.seq_words.specs.declared.command.Command.{Command}
-use Rattle.seq_words.specs.declared.command.Command.TheVariants as Command
 use Rattle.seq_words.specs.declared.command.Words.{Words}
-use Rattle.seq_words.specs.declared.command.Words.TheVariants as Words
 use Rattle.seq_words.specs.declared.command.Opt.{Opt}
-use Rattle.seq_words.specs.declared.command.Opt.TheVariants as Opt
 use Rattle.seq_words.specs.declared.usage.Argument.{Argument}
 use Rattle.seq_words.specs.declared.usage.Name.TheVariants as Name
 use Rattle.seq_words.specs.declared.usage.TheConstants.{ARRANGE, CHECK, AUDIT, SLICES, TRIAL}
@@ -83,3 +81,10 @@ asked (name ∷ rest) =
     else (if bytes_eq name (codes "slices") then asked_of (codes "slices") SLICES.now slices_in (name ∷ rest)
     else (if bytes_eq name (codes "trial") then asked_of (codes "trial") TRIAL.now trial_in (name ∷ rest)
     else Err Words.Unknown))))
+
+abbrev pub IsWithinLimits : Command → Type 0
+IsWithinLimits (Command.Arrange least strict budget printer meshes) = (1 ≤ budget) × (budget ≤ 1_000_000) × (length meshes ≤ 16)
+IsWithinLimits (Command.Check printer plan meshes) = length meshes ≤ 16
+IsWithinLimits (Command.Audit printer plan meshes) = length meshes ≤ 16
+IsWithinLimits (Command.Slices printer mesh) = ⊤
+IsWithinLimits (Command.Trial objects seed) = (1 ≤ objects) × (objects ≤ 16) × (seed < 2 ^ 32)

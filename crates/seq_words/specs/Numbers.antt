@@ -2,7 +2,7 @@
 --
 --   value_from n digits    the number that the digits spell when they follow those of n; None where one of them is no digit
 --   number_in low high t   the number of one to ten ASCII digits from low to high; None for every other text
-use Rattle.std.specs.Prelude.{ℕ, ◌+◌, ◌*◌, ◌-◌, ◌&&◌, nat_le, List, [], ◌∷◌, length, Option, Some, None, if◌then◌else◌, option_and_then}
+use Rattle.std.specs.Prelude.{ℕ, ◌+◌, ◌*◌, ◌-◌, ◌&&◌, nat_le, List, [], ◌∷◌, length, Option, Some, None, if◌then◌else◌}
 use Rattle.std.specs.Char.{is_ascii_digit}
 
 -- 48 is `0`

@@ -15,9 +15,7 @@ use Rattle.clap.specs.Words.{App, Kinds, Rule, Row, Text, new_app, new_rule, wit
 use Rattle.clap.specs.Lexer.{usize_max}
 use Rattle.clap.specs.declared.builder.action.ArgAction.TheVariants.{Set, Append, SetTrue}
 use Rattle.seq_words.specs.declared.usage.Name.{Name}
-use Rattle.seq_words.specs.declared.usage.Name.TheVariants as Name
 use Rattle.seq_words.specs.declared.usage.Argument.{Argument}
-use Rattle.seq_words.specs.declared.usage.Argument.TheVariants as Argument
 
 abbrev pub label_of : Name → Text
 label_of Name.Least = codes "least"

@@ -48,7 +48,7 @@ pub enum Command {
         mesh: Text,
     },
     Trial {
-        objects: u64,
+        objects: u32,
         seed: u64,
     },
 }

@@ -1,4 +1,4 @@
-ghost use Rattle.std.specs.Prelude.{◌≡◌, ◌⊎◌, Some, None, true, map, option_map, IfOk, IfErr};
+ghost use Rattle.std.specs.Prelude.{◌≡◌, ◌≤◌, ◌⊎◌, length, Some, None, true, map, option_map, IfOk, IfErr};
 ghost use Rattle.clap.specs.Words.{app_of, first_of, found_of, is_simple_and_free, rows_of};
 ghost use Rattle.seq_words.specs.Usages.{label_of, is_given, rows_by, simple_command, text_of, texts, texts_of};
 ghost use Rattle.seq_words.specs.Asked.{budget_in, meshes_in};
@@ -12,7 +12,12 @@ use owned_lists::{Items, Text};
 use std::alloc::Global;
 
 /// What the command of this name, with these arguments, finds in the words.
-pub(crate) fn found<'a>(alloc: Global, name: &'a str, usage: &[Argument], words: &'a [String]) -> Result<ArgMatches<'a>, Words>
+pub(crate) fn found<'a>(
+    alloc: Global,
+    name: &'a str,
+    usage: &[Argument],
+    words: &'a [String],
+) -> Result<ArgMatches<'a>, Words>
     requires { is_simple_and_free (simple_command name.now usage.now) ≡ true }
     ensures ok { IfOk result (λ m. rows_by (simple_command name.entry.now usage.now) (texts words.entry.now) ≡ Some (rows_of (found_of m))) }
     ensures err { IfErr result (λ e. (e ≡ Words.NoMemory) ⊎ ((e ≡ Words.Usage) × (rows_by (simple_command name.entry.now usage.now) (texts words.entry.now) ≡ None))) }
@@ -80,7 +85,8 @@ pub(crate) fn is_on<'a>(matches: &ArgMatches<'a>, name: Name) -> bool
 
 /// The value of `--budget`, or the default.
 pub(crate) fn budget<'a>(matches: &ArgMatches<'a>) -> Result<u64, Words>
-    ensures { result ≡ budget_in (rows_of (found_of matches.now)) }
+    ensures value { result ≡ budget_in (rows_of (found_of matches.now)) }
+    ensures limits { IfOk result (λ n. (1 ≤ n) × (n ≤ 1_000_000)) }
 {
     match given(matches, Name::Budget) {
         Some(text) => number_for(Opt::Budget, 1, 1_000_000, text),
@@ -118,6 +124,7 @@ fn several<'a>(alloc: Global, matches: &ArgMatches<'a>, name: Name) -> Result<It
 /// The names of the meshes.
 pub(crate) fn meshes<'a>(alloc: Global, matches: &ArgMatches<'a>) -> Result<Items<Text>, Words>
     ensures ok { IfOk result (λ meshes. meshes_in (rows_of (found_of matches.now)) ≡ Ok meshes) }
+    ensures limits { IfOk result (λ meshes. length meshes ≤ 16) }
     ensures err { IfErr result (λ e. (e ≡ Words.NoMemory) ⊎ (meshes_in (rows_of (found_of matches.now)) ≡ Err e)) }
 {
     let meshes = several(alloc, matches, Name::Stl)?;

@@ -1,4 +1,4 @@
-ghost use Rattle.std.specs.Prelude.{◌≡◌, ◌≤◌, length};
+ghost use Rattle.std.specs.Prelude.{◌≡◌, ◌≤◌, length, IfSome, IfOk};
 ghost use Rattle.seq_words.specs.Numbers.{value_from, number_in};
 ghost use Rattle.seq_words.specs.Asked.{number_or};
 
@@ -21,7 +21,8 @@ fn value(digits: &[u8]) -> Option<u64>
 }
 
 fn number(low: u64, high: u64, text: &str) -> Option<u64>
-    ensures { result ≡ number_in low high text.now }
+    ensures value { result ≡ number_in low high text.now }
+    ensures limits { IfSome result (λ n. (low ≤ n) × (n ≤ high)) }
 {
     let digits = text.as_bytes();
     if digits.is_empty() || digits.len() > 10 {
@@ -35,7 +36,8 @@ fn number(low: u64, high: u64, text: &str) -> Option<u64>
 
 /// The number from `low` to `high` that a text spells in one to ten digits, or else that of `opt` is bad.
 pub(crate) fn number_for(opt: Opt, low: u64, high: u64, text: &str) -> Result<u64, Words>
-    ensures { result ≡ number_or opt (number_in low high text.now) }
+    ensures value { result ≡ number_or opt (number_in low high text.now) }
+    ensures limits { IfOk result (λ n. (low ≤ n) × (n ≤ high)) }
 {
     match number(low, high, text) {
         Some(number) => Ok(number),

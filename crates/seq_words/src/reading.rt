@@ -1,6 +1,6 @@
 ghost use Rattle.std.specs.Prelude.{◌≡◌, ◌⊎◌, codes, IfOk, IfErr};
 ghost use Rattle.seq_words.specs.Usages.{texts};
-ghost use Rattle.seq_words.specs.Asked.{asked, asked_of, arrange_in, audit_in, check_in, slices_in, trial_in};
+ghost use Rattle.seq_words.specs.Asked.{IsWithinLimits, asked, asked_of, arrange_in, audit_in, check_in, slices_in, trial_in};
 
 use crate::command::{Command, Opt, Words};
 use crate::found::{budget, found, is_on, meshes, text, word};
@@ -11,6 +11,7 @@ use std::alloc::Global;
 /// What the words ask for. They don't hold the program's name.
 pub fn read(alloc: Global, words: &[String]) -> Result<Command, Words>
     ensures ok { IfOk result (λ command. asked (texts words.now) ≡ Ok command) }
+    ensures limits { IfOk result IsWithinLimits }
     ensures err { IfErr result (λ refusal. (refusal ≡ Words.NoMemory) ⊎ (asked (texts words.now) ≡ Err refusal)) }
 {
     let Some(name) = words.first() else {
@@ -35,6 +36,7 @@ pub fn read(alloc: Global, words: &[String]) -> Result<Command, Words>
 #[tactic(auto, using(crate::proofs::Free::arrange_is_free))]
 fn read_arrange(alloc: Global, words: &[String]) -> Result<Command, Words>
     ensures ok { IfOk result (λ command. asked_of (codes "arrange") ARRANGE.now arrange_in (texts words.now) ≡ Ok command) }
+    ensures limits { IfOk result IsWithinLimits }
     ensures err { IfErr result (λ refusal. (refusal ≡ Words.NoMemory) ⊎ (asked_of (codes "arrange") ARRANGE.now arrange_in (texts words.now) ≡ Err refusal)) }
 {
     let matches = found(alloc, "arrange", ARRANGE, words)?;
@@ -55,30 +57,41 @@ fn read_arrange(alloc: Global, words: &[String]) -> Result<Command, Words>
 #[tactic(auto, using(crate::proofs::Free::check_is_free))]
 fn read_check(alloc: Global, words: &[String]) -> Result<Command, Words>
     ensures ok { IfOk result (λ command. asked_of (codes "check") CHECK.now check_in (texts words.now) ≡ Ok command) }
+    ensures limits { IfOk result IsWithinLimits }
     ensures err { IfErr result (λ refusal. (refusal ≡ Words.NoMemory) ⊎ (asked_of (codes "check") CHECK.now check_in (texts words.now) ≡ Err refusal)) }
 {
     let matches = found(alloc, "check", CHECK, words)?;
     let printer = text(alloc, &matches, Name::Printer)?;
     let plan = text(alloc, &matches, Name::Plan)?;
     let meshes = meshes(alloc, &matches)?;
-    Ok(Command::Check { printer, plan, meshes })
+    Ok(Command::Check {
+        printer,
+        plan,
+        meshes,
+    })
 }
 
 #[tactic(auto, using(crate::proofs::Free::audit_is_free))]
 fn read_audit(alloc: Global, words: &[String]) -> Result<Command, Words>
     ensures ok { IfOk result (λ command. asked_of (codes "audit") AUDIT.now audit_in (texts words.now) ≡ Ok command) }
+    ensures limits { IfOk result IsWithinLimits }
     ensures err { IfErr result (λ refusal. (refusal ≡ Words.NoMemory) ⊎ (asked_of (codes "audit") AUDIT.now audit_in (texts words.now) ≡ Err refusal)) }
 {
     let matches = found(alloc, "audit", AUDIT, words)?;
     let printer = text(alloc, &matches, Name::Printer)?;
     let plan = text(alloc, &matches, Name::Plan)?;
     let meshes = meshes(alloc, &matches)?;
-    Ok(Command::Audit { printer, plan, meshes })
+    Ok(Command::Audit {
+        printer,
+        plan,
+        meshes,
+    })
 }
 
 #[tactic(auto, using(crate::proofs::Free::slices_is_free))]
 fn read_slices(alloc: Global, words: &[String]) -> Result<Command, Words>
     ensures ok { IfOk result (λ command. asked_of (codes "slices") SLICES.now slices_in (texts words.now) ≡ Ok command) }
+    ensures limits { IfOk result IsWithinLimits }
     ensures err { IfErr result (λ refusal. (refusal ≡ Words.NoMemory) ⊎ (asked_of (codes "slices") SLICES.now slices_in (texts words.now) ≡ Err refusal)) }
 {
     let matches = found(alloc, "slices", SLICES, words)?;
@@ -90,10 +103,14 @@ fn read_slices(alloc: Global, words: &[String]) -> Result<Command, Words>
 #[tactic(auto, using(crate::proofs::Free::trial_is_free))]
 fn read_trial(alloc: Global, words: &[String]) -> Result<Command, Words>
     ensures ok { IfOk result (λ command. asked_of (codes "trial") TRIAL.now trial_in (texts words.now) ≡ Ok command) }
+    ensures limits { IfOk result IsWithinLimits }
     ensures err { IfErr result (λ refusal. (refusal ≡ Words.NoMemory) ⊎ (asked_of (codes "trial") TRIAL.now trial_in (texts words.now) ≡ Err refusal)) }
 {
     let matches = found(alloc, "trial", TRIAL, words)?;
     let objects = number_for(Opt::K, 1, 16, word(&matches, Name::K))?;
     let seed = number_for(Opt::N, 0, 4_294_967_295, word(&matches, Name::N))?;
-    Ok(Command::Trial { objects, seed })
+    Ok(Command::Trial {
+        objects: objects as u32,
+        seed,
+    })
 }

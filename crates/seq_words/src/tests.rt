@@ -24,16 +24,42 @@ fn joined(alloc: Global, names: &Items<Text>) -> Result<String, Fail> {
 
 fn told(alloc: Global, command: &Command) -> Result<String, Fail> {
     match command {
-        Command::Arrange { least, strict, budget, printer, meshes } => Ok(format!(
-            in alloc; "arrange {least} {strict} {budget} {}{}", printer.as_str(), joined(alloc, meshes)?
+        Command::Arrange {
+            least,
+            strict,
+            budget,
+            printer,
+            meshes,
+        } => Ok(format!(in alloc;
+            "arrange {least} {strict} {budget} {}{}",
+            printer.as_str(),
+            joined(alloc, meshes)?
         )?),
-        Command::Check { printer, plan, meshes } => Ok(format!(
-            in alloc; "check {} {}{}", printer.as_str(), plan.as_str(), joined(alloc, meshes)?
+        Command::Check {
+            printer,
+            plan,
+            meshes,
+        } => Ok(format!(in alloc;
+            "check {} {}{}",
+            printer.as_str(),
+            plan.as_str(),
+            joined(alloc, meshes)?
         )?),
-        Command::Audit { printer, plan, meshes } => Ok(format!(
-            in alloc; "audit {} {}{}", printer.as_str(), plan.as_str(), joined(alloc, meshes)?
+        Command::Audit {
+            printer,
+            plan,
+            meshes,
+        } => Ok(format!(in alloc;
+            "audit {} {}{}",
+            printer.as_str(),
+            plan.as_str(),
+            joined(alloc, meshes)?
         )?),
-        Command::Slices { printer, mesh } => Ok(format!(in alloc; "slices {} {}", printer.as_str(), mesh.as_str())?),
+        Command::Slices { printer, mesh } => Ok(format!(in alloc;
+            "slices {} {}",
+            printer.as_str(),
+            mesh.as_str()
+        )?),
         Command::Trial { objects, seed } => Ok(format!(in alloc; "trial {objects} {seed}")?),
     }
 }
@@ -42,20 +68,56 @@ fn told(alloc: Global, command: &Command) -> Result<String, Fail> {
 fn commands_are_read_as_the_words_spell_them(rt: HostRuntime) -> Result<(), Fail> {
     let alloc = rt.alloc();
     for (line, want) in [
-        ("arrange p.toml a.stl", "arrange false false 20000 p.toml a.stl"),
-        ("arrange --least p.toml a.stl b.stl", "arrange true false 20000 p.toml a.stl b.stl"),
-        ("arrange p.toml --strict a.stl --least b.stl", "arrange true true 20000 p.toml a.stl b.stl"),
-        ("arrange p.toml a.stl --budget 5", "arrange false false 5 p.toml a.stl"),
-        ("arrange --budget=5 p.toml a.stl", "arrange false false 5 p.toml a.stl"),
-        ("arrange --strict --budget 1000000 p.toml a.stl", "arrange false true 1000000 p.toml a.stl"),
-        ("arrange --budget 0000000007 p.toml a.stl", "arrange false false 7 p.toml a.stl"),
-        ("arrange p.toml a.stl a.stl", "arrange false false 20000 p.toml a.stl a.stl"),
-        ("arrange -- p.toml --least", "arrange false false 20000 p.toml --least"),
-        ("arrange p.toml -- --help --budget", "arrange false false 20000 p.toml --help --budget"),
+        (
+            "arrange p.toml a.stl",
+            "arrange false false 20000 p.toml a.stl",
+        ),
+        (
+            "arrange --least p.toml a.stl b.stl",
+            "arrange true false 20000 p.toml a.stl b.stl",
+        ),
+        (
+            "arrange p.toml --strict a.stl --least b.stl",
+            "arrange true true 20000 p.toml a.stl b.stl",
+        ),
+        (
+            "arrange p.toml a.stl --budget 5",
+            "arrange false false 5 p.toml a.stl",
+        ),
+        (
+            "arrange --budget=5 p.toml a.stl",
+            "arrange false false 5 p.toml a.stl",
+        ),
+        (
+            "arrange --strict --budget 1000000 p.toml a.stl",
+            "arrange false true 1000000 p.toml a.stl",
+        ),
+        (
+            "arrange --budget 0000000007 p.toml a.stl",
+            "arrange false false 7 p.toml a.stl",
+        ),
+        (
+            "arrange p.toml a.stl a.stl",
+            "arrange false false 20000 p.toml a.stl a.stl",
+        ),
+        (
+            "arrange -- p.toml --least",
+            "arrange false false 20000 p.toml --least",
+        ),
+        (
+            "arrange p.toml -- --help --budget",
+            "arrange false false 20000 p.toml --help --budget",
+        ),
         ("arrange - -", "arrange false false 20000 - -"),
         ("check p.toml plan a.stl", "check p.toml plan a.stl"),
-        ("check p.toml plan a.stl b.stl", "check p.toml plan a.stl b.stl"),
-        ("audit p.toml plan a.stl b.stl", "audit p.toml plan a.stl b.stl"),
+        (
+            "check p.toml plan a.stl b.stl",
+            "check p.toml plan a.stl b.stl",
+        ),
+        (
+            "audit p.toml plan a.stl b.stl",
+            "audit p.toml plan a.stl b.stl",
+        ),
         ("slices p1.toml cube.stl", "slices p1.toml cube.stl"),
         ("slices -- --help arrange", "slices --help arrange"),
         ("trial 1 0", "trial 1 0"),
@@ -94,12 +156,30 @@ fn words_are_refused_with_their_cause(rt: HostRuntime) -> Result<(), Fail> {
         ("arrange --budget -- p.toml a.stl", Words::Usage),
         ("arrange --least=yes p.toml a.stl", Words::Usage),
         ("arrange --leas p.toml a.stl", Words::Usage),
-        ("arrange --budget 0 p.toml a.stl", Words::BadNumber(Opt::Budget)),
-        ("arrange --budget 1000001 p.toml a.stl", Words::BadNumber(Opt::Budget)),
-        ("arrange --budget=00000000001 p.toml a.stl", Words::BadNumber(Opt::Budget)),
-        ("arrange --budget= p.toml a.stl", Words::BadNumber(Opt::Budget)),
-        ("arrange --budget=-5 p.toml a.stl", Words::BadNumber(Opt::Budget)),
-        ("arrange --budget +5 p.toml a.stl", Words::BadNumber(Opt::Budget)),
+        (
+            "arrange --budget 0 p.toml a.stl",
+            Words::BadNumber(Opt::Budget),
+        ),
+        (
+            "arrange --budget 1000001 p.toml a.stl",
+            Words::BadNumber(Opt::Budget),
+        ),
+        (
+            "arrange --budget=00000000001 p.toml a.stl",
+            Words::BadNumber(Opt::Budget),
+        ),
+        (
+            "arrange --budget= p.toml a.stl",
+            Words::BadNumber(Opt::Budget),
+        ),
+        (
+            "arrange --budget=-5 p.toml a.stl",
+            Words::BadNumber(Opt::Budget),
+        ),
+        (
+            "arrange --budget +5 p.toml a.stl",
+            Words::BadNumber(Opt::Budget),
+        ),
         ("check p.toml plan", Words::Usage),
         ("check p.toml plan a.stl --strict", Words::Usage),
         ("audit p.toml", Words::Usage),

@@ -82,14 +82,27 @@ fn rule<'a>(alloc: Global, argument: Argument) -> Arg<'a>
     ensures local { result.global ≡ false }
 {
     match argument {
-        Argument::Flag(name) => Arg::new(alloc, label(name)).long(label(name)).action(ArgAction::SetTrue),
-        Argument::Value(name) => Arg::new(alloc, label(name)).long(label(name)).action(ArgAction::Set),
-        Argument::One(name) => Arg::new(alloc, label(name)).required(true).action(ArgAction::Set),
-        Argument::Several(name) => Arg::new(alloc, label(name)).required(true).action(ArgAction::Append).num_args(1..),
+        Argument::Flag(name) => Arg::new(alloc, label(name))
+            .long(label(name))
+            .action(ArgAction::SetTrue),
+        Argument::Value(name) => Arg::new(alloc, label(name))
+            .long(label(name))
+            .action(ArgAction::Set),
+        Argument::One(name) => Arg::new(alloc, label(name))
+            .required(true)
+            .action(ArgAction::Set),
+        Argument::Several(name) => Arg::new(alloc, label(name))
+            .required(true)
+            .action(ArgAction::Append)
+            .num_args(1..),
     }
 }
 
-fn with_argument<'a>(alloc: Global, command: Parser<'a>, argument: Argument) -> Result<Parser<'a>, Words>
+fn with_argument<'a>(
+    alloc: Global,
+    command: Parser<'a>,
+    argument: Argument,
+) -> Result<Parser<'a>, Words>
     ensures ok { IfOk result (λ more. app_of more ≡ with_rule (app_of command.entry) (rule_of argument)) }
     ensures err { IfErr result (λ e. e ≡ Words.NoMemory) }
 {
@@ -101,7 +114,11 @@ fn with_argument<'a>(alloc: Global, command: Parser<'a>, argument: Argument) -> 
 
 /// clap's command of this name with just these arguments.
 #[tactic(auto, using(std::proofs::lemmas::List::drop_more), unfolding(crate::specs::Usages::simple_command))]
-pub(crate) fn parser<'a>(alloc: Global, name: &'a str, usage: &[Argument]) -> Result<Parser<'a>, Words>
+pub(crate) fn parser<'a>(
+    alloc: Global,
+    name: &'a str,
+    usage: &[Argument],
+) -> Result<Parser<'a>, Words>
     ensures ok { IfOk result (λ command. app_of command ≡ simple_command name.entry.now usage.now) }
     ensures err { IfErr result (λ e. e ≡ Words.NoMemory) }
 {

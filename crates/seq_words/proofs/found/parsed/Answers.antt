@@ -1,4 +1,4 @@
-use Rattle.std.proofs.Common.{rules, ◌≡◌, ◌∙◌, inl, inr, refl}
+use Rattle.std.proofs.Common.{◌∙◌, inl, inr}
 use Rattle.std.proofs.lemmas.Bool.{and_parts}
 use Rattle.seq_words.proofs.Faults.{rows_of_clean, rows_of_fault}
 use Rattle.seq_words.proofs.found.parsed.Goals as goal

@@ -1,4 +1,4 @@
-use Rattle.std.proofs.Common.{rules, ◌≡◌, ◌∙◌, sym, ap, Some, None, option_map, map, refl}
+use Rattle.std.proofs.Common.{rules, ◌≡◌, ◌∙◌, sym, ap, Some, None, option_map, map}
 use Rattle.clap.specs.Words.{rows_of, found_of, all_of}
 use Rattle.clap.proofs.WalkLemmas.{raw_values-rows}
 use Rattle.seq_words.proofs.found.several.Goals as goal
