@@ -1,12 +1,15 @@
 -- What the words ask for.
 --
 --   asked words            the command that the words spell, or why they are refused
---   arrange_in rows, ..    what the command of that name makes of what clap found
+--   asked_arrange words    the same of words that begin with `arrange`; and so for the other commands
+--   arrange_in rows        the command that clap's finds make, or why its numbers or meshes are refused; and so on
+--   taken command_in found what the finds make, and `Usage` where clap refuses the words
 --   number_or opt n        the number, or else that of opt is bad
 --   budget_in rows         the value of `--budget`, or the default budget
 --   meshes_in rows         the names of at most 16 meshes
---   IsWithinLimits c       the numbers of the command and the count of its meshes are within their limits, which follows from asked
-use Rattle.std.specs.Prelude.{ℕ, ◌≤◌, ◌<◌, ◌^◌, ⊤, List, [], ◌∷◌, Option, Some, None, codes, Result, Ok, Err, if◌then◌else◌, nat_le, length}
+--   IsDue answer refusal   the answer is this refusal, or memory was wanting
+--   IsWithinLimits c       the numbers of the command and the count of its meshes are within their limits
+use Rattle.std.specs.Prelude.{◌≡◌, ◌⊎◌, ℕ, ◌≤◌, ◌<◌, ◌^◌, ⊤, List, [], ◌∷◌, Option, Some, None, codes, Result, Ok, Err, if◌then◌else◌, nat_le, length}
 use Rattle.std.specs.Str.{bytes_eq}
 use Rattle.clap.specs.Words.{Row, Text, first_of}
 use Rattle.seq_words.specs.declared.command.Command.{Command}
@@ -63,7 +66,6 @@ trial_in rows = do
   seed ← number_or Opt.N (number_in 0 4_294_967_295 (text_of Name.N rows))
   Ok (Command.Trial objects seed)
 
--- what a command makes of what clap found, and `Usage` where clap refuses the words
 abbrev pub taken : (List Row → Result Command Words) → Option (List Row) → Result Command Words
 taken command_in (Some rows) = command_in rows
 taken command_in None = Err Words.Usage
@@ -72,15 +74,34 @@ taken command_in None = Err Words.Usage
 abbrev pub asked_of : Text → List Argument → (List Row → Result Command Words) → List Text → Result Command Words
 asked_of name usage command_in words = taken command_in (rows_by (simple_command name usage) words)
 
+abbrev pub asked_arrange : List Text → Result Command Words
+asked_arrange words = asked_of (codes "arrange") ARRANGE.now arrange_in words
+
+abbrev pub asked_check : List Text → Result Command Words
+asked_check words = asked_of (codes "check") CHECK.now check_in words
+
+abbrev pub asked_audit : List Text → Result Command Words
+asked_audit words = asked_of (codes "audit") AUDIT.now audit_in words
+
+abbrev pub asked_slices : List Text → Result Command Words
+asked_slices words = asked_of (codes "slices") SLICES.now slices_in words
+
+abbrev pub asked_trial : List Text → Result Command Words
+asked_trial words = asked_of (codes "trial") TRIAL.now trial_in words
+
 abbrev pub asked : List Text → Result Command Words
 asked [] = Err Words.Unknown
 asked (name ∷ rest) =
-    if bytes_eq name (codes "arrange") then asked_of (codes "arrange") ARRANGE.now arrange_in (name ∷ rest)
-    else (if bytes_eq name (codes "check") then asked_of (codes "check") CHECK.now check_in (name ∷ rest)
-    else (if bytes_eq name (codes "audit") then asked_of (codes "audit") AUDIT.now audit_in (name ∷ rest)
-    else (if bytes_eq name (codes "slices") then asked_of (codes "slices") SLICES.now slices_in (name ∷ rest)
-    else (if bytes_eq name (codes "trial") then asked_of (codes "trial") TRIAL.now trial_in (name ∷ rest)
+    if bytes_eq name (codes "arrange") then asked_arrange (name ∷ rest)
+    else (if bytes_eq name (codes "check") then asked_check (name ∷ rest)
+    else (if bytes_eq name (codes "audit") then asked_audit (name ∷ rest)
+    else (if bytes_eq name (codes "slices") then asked_slices (name ∷ rest)
+    else (if bytes_eq name (codes "trial") then asked_trial (name ∷ rest)
     else Err Words.Unknown))))
+
+-- this refusal is due; want of memory may come in place of any answer
+abbrev pub IsDue : {A : Type 0} → Result A Words → Words → Type 0
+IsDue due refusal = (refusal ≡ Words.NoMemory) ⊎ (due ≡ Err refusal)
 
 abbrev pub IsWithinLimits : Command → Type 0
 IsWithinLimits (Command.Arrange least strict budget printer meshes) = (1 ≤ budget) × (budget ≤ 1_000_000) × (length meshes ≤ 16)

@@ -1,7 +1,7 @@
 ghost use Rattle.std.specs.Prelude.{◌≡◌, ◌≤◌, ◌⊎◌, length, Some, None, true, map, option_map, IfOk, IfErr};
 ghost use Rattle.clap.specs.Words.{app_of, first_of, found_of, is_simple_and_free, rows_of};
 ghost use Rattle.seq_words.specs.Usages.{label_of, is_given, rows_by, simple_command, text_of, texts, texts_of};
-ghost use Rattle.seq_words.specs.Asked.{budget_in, meshes_in};
+ghost use Rattle.seq_words.specs.Asked.{IsDue, budget_in, meshes_in};
 
 use crate::command::{Opt, Words};
 use crate::numbers::number_for;
@@ -125,7 +125,7 @@ fn several<'a>(alloc: Global, matches: &ArgMatches<'a>, name: Name) -> Result<It
 pub(crate) fn meshes<'a>(alloc: Global, matches: &ArgMatches<'a>) -> Result<Items<Text>, Words>
     ensures ok { IfOk result (λ meshes. meshes_in (rows_of (found_of matches.now)) ≡ Ok meshes) }
     ensures limits { IfOk result (λ meshes. length meshes ≤ 16) }
-    ensures err { IfErr result (λ e. (e ≡ Words.NoMemory) ⊎ (meshes_in (rows_of (found_of matches.now)) ≡ Err e)) }
+    ensures err { IfErr result (IsDue (meshes_in (rows_of (found_of matches.now)))) }
 {
     let meshes = several(alloc, matches, Name::Stl)?;
     if meshes.len() > 16 {

@@ -1,6 +1,6 @@
-ghost use Rattle.std.specs.Prelude.{◌≡◌, ◌⊎◌, codes, IfOk, IfErr};
+ghost use Rattle.std.specs.Prelude.{◌≡◌, ◌⊎◌, IfOk, IfErr};
 ghost use Rattle.seq_words.specs.Usages.{texts};
-ghost use Rattle.seq_words.specs.Asked.{IsWithinLimits, asked, asked_of, arrange_in, audit_in, check_in, slices_in, trial_in};
+ghost use Rattle.seq_words.specs.Asked.{IsDue, IsWithinLimits, asked, asked_arrange, asked_audit, asked_check, asked_slices, asked_trial};
 
 use crate::command::{Command, Opt, Words};
 use crate::found::{budget, found, is_on, meshes, text, word};
@@ -35,9 +35,9 @@ pub fn read(alloc: Global, words: &[String]) -> Result<Command, Words>
 
 #[tactic(auto, using(crate::proofs::Free::arrange_is_free))]
 fn read_arrange(alloc: Global, words: &[String]) -> Result<Command, Words>
-    ensures ok { IfOk result (λ command. asked_of (codes "arrange") ARRANGE.now arrange_in (texts words.now) ≡ Ok command) }
+    ensures ok { IfOk result (λ command. asked_arrange (texts words.now) ≡ Ok command) }
     ensures limits { IfOk result IsWithinLimits }
-    ensures err { IfErr result (λ refusal. (refusal ≡ Words.NoMemory) ⊎ (asked_of (codes "arrange") ARRANGE.now arrange_in (texts words.now) ≡ Err refusal)) }
+    ensures err { IfErr result (IsDue (asked_arrange (texts words.now))) }
 {
     let matches = found(alloc, "arrange", ARRANGE, words)?;
     let least = is_on(&matches, Name::Least);
@@ -56,9 +56,9 @@ fn read_arrange(alloc: Global, words: &[String]) -> Result<Command, Words>
 
 #[tactic(auto, using(crate::proofs::Free::check_is_free))]
 fn read_check(alloc: Global, words: &[String]) -> Result<Command, Words>
-    ensures ok { IfOk result (λ command. asked_of (codes "check") CHECK.now check_in (texts words.now) ≡ Ok command) }
+    ensures ok { IfOk result (λ command. asked_check (texts words.now) ≡ Ok command) }
     ensures limits { IfOk result IsWithinLimits }
-    ensures err { IfErr result (λ refusal. (refusal ≡ Words.NoMemory) ⊎ (asked_of (codes "check") CHECK.now check_in (texts words.now) ≡ Err refusal)) }
+    ensures err { IfErr result (IsDue (asked_check (texts words.now))) }
 {
     let matches = found(alloc, "check", CHECK, words)?;
     let printer = text(alloc, &matches, Name::Printer)?;
@@ -73,9 +73,9 @@ fn read_check(alloc: Global, words: &[String]) -> Result<Command, Words>
 
 #[tactic(auto, using(crate::proofs::Free::audit_is_free))]
 fn read_audit(alloc: Global, words: &[String]) -> Result<Command, Words>
-    ensures ok { IfOk result (λ command. asked_of (codes "audit") AUDIT.now audit_in (texts words.now) ≡ Ok command) }
+    ensures ok { IfOk result (λ command. asked_audit (texts words.now) ≡ Ok command) }
     ensures limits { IfOk result IsWithinLimits }
-    ensures err { IfErr result (λ refusal. (refusal ≡ Words.NoMemory) ⊎ (asked_of (codes "audit") AUDIT.now audit_in (texts words.now) ≡ Err refusal)) }
+    ensures err { IfErr result (IsDue (asked_audit (texts words.now))) }
 {
     let matches = found(alloc, "audit", AUDIT, words)?;
     let printer = text(alloc, &matches, Name::Printer)?;
@@ -90,9 +90,9 @@ fn read_audit(alloc: Global, words: &[String]) -> Result<Command, Words>
 
 #[tactic(auto, using(crate::proofs::Free::slices_is_free))]
 fn read_slices(alloc: Global, words: &[String]) -> Result<Command, Words>
-    ensures ok { IfOk result (λ command. asked_of (codes "slices") SLICES.now slices_in (texts words.now) ≡ Ok command) }
+    ensures ok { IfOk result (λ command. asked_slices (texts words.now) ≡ Ok command) }
     ensures limits { IfOk result IsWithinLimits }
-    ensures err { IfErr result (λ refusal. (refusal ≡ Words.NoMemory) ⊎ (asked_of (codes "slices") SLICES.now slices_in (texts words.now) ≡ Err refusal)) }
+    ensures err { IfErr result (IsDue (asked_slices (texts words.now))) }
 {
     let matches = found(alloc, "slices", SLICES, words)?;
     let printer = text(alloc, &matches, Name::Printer)?;
@@ -102,9 +102,9 @@ fn read_slices(alloc: Global, words: &[String]) -> Result<Command, Words>
 
 #[tactic(auto, using(crate::proofs::Free::trial_is_free))]
 fn read_trial(alloc: Global, words: &[String]) -> Result<Command, Words>
-    ensures ok { IfOk result (λ command. asked_of (codes "trial") TRIAL.now trial_in (texts words.now) ≡ Ok command) }
+    ensures ok { IfOk result (λ command. asked_trial (texts words.now) ≡ Ok command) }
     ensures limits { IfOk result IsWithinLimits }
-    ensures err { IfErr result (λ refusal. (refusal ≡ Words.NoMemory) ⊎ (asked_of (codes "trial") TRIAL.now trial_in (texts words.now) ≡ Err refusal)) }
+    ensures err { IfErr result (IsDue (asked_trial (texts words.now))) }
 {
     let matches = found(alloc, "trial", TRIAL, words)?;
     let objects = number_for(Opt::K, 1, 16, word(&matches, Name::K))?;

@@ -7,7 +7,7 @@ use clap::{Arg, ArgAction, Command as Parser};
 use std::alloc::Global;
 
 /// What an argument is called.
-#[derive(Debug, Clone, Copy, PartialEq, Eq)]
+#[derive(Clone, Copy)]
 pub enum Name {
     Least,
     Strict,
@@ -20,7 +20,7 @@ pub enum Name {
 }
 
 /// An argument of a command.
-#[derive(Debug, Clone, Copy, PartialEq, Eq)]
+#[derive(Clone, Copy)]
 pub enum Argument {
     /// `[--NAME]`
     Flag(Name),
