@@ -71,6 +71,7 @@ is_clean (kind ∷ kinds) = false
 unfoldable pub rows_by : App → List Text → Option (List Row)
 rows_by command words = if is_clean (fault_of command words) then Some (matches_of command words) else None
 
+-- clap finds a text for each required argument, so the empty one stands only for an option that isn't given
 abbrev pub text_of : Name → List Row → Text
 text_of name rows = unwrap_or (first_of (label_of name) rows) []
 
