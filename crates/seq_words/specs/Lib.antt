@@ -1,0 +1,3 @@
+pub mod Usages
+pub mod Numbers
+pub mod Asked
