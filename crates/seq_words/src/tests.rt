@@ -64,72 +64,129 @@ fn told(alloc: Global, command: &Command) -> Result<String, Fail> {
     }
 }
 
+// A line of words, and the command that it spells.
+static ACCEPTED: [(&str, &str); 19] = [
+    (
+        "arrange p.toml a.stl",
+        "arrange false false 20000 p.toml a.stl",
+    ),
+    (
+        "arrange --least p.toml a.stl b.stl",
+        "arrange true false 20000 p.toml a.stl b.stl",
+    ),
+    (
+        "arrange p.toml --strict a.stl --least b.stl",
+        "arrange true true 20000 p.toml a.stl b.stl",
+    ),
+    (
+        "arrange p.toml a.stl --budget 5",
+        "arrange false false 5 p.toml a.stl",
+    ),
+    (
+        "arrange --budget=5 p.toml a.stl",
+        "arrange false false 5 p.toml a.stl",
+    ),
+    (
+        "arrange --strict --budget 1000000 p.toml a.stl",
+        "arrange false true 1000000 p.toml a.stl",
+    ),
+    (
+        "arrange --budget 0000000007 p.toml a.stl",
+        "arrange false false 7 p.toml a.stl",
+    ),
+    (
+        "arrange p.toml a.stl a.stl",
+        "arrange false false 20000 p.toml a.stl a.stl",
+    ),
+    (
+        "arrange -- p.toml --least",
+        "arrange false false 20000 p.toml --least",
+    ),
+    (
+        "arrange p.toml -- --help --budget",
+        "arrange false false 20000 p.toml --help --budget",
+    ),
+    ("arrange - -", "arrange false false 20000 - -"),
+    ("check p.toml plan a.stl", "check p.toml plan a.stl"),
+    (
+        "check p.toml plan a.stl b.stl",
+        "check p.toml plan a.stl b.stl",
+    ),
+    (
+        "audit p.toml plan a.stl b.stl",
+        "audit p.toml plan a.stl b.stl",
+    ),
+    ("slices p1.toml cube.stl", "slices p1.toml cube.stl"),
+    ("slices -- --help arrange", "slices --help arrange"),
+    ("trial 1 0", "trial 1 0"),
+    ("trial 16 4294967295", "trial 16 4294967295"),
+    ("trial 01 0000000000", "trial 1 0"),
+];
+
+// A line of words, and why it is refused.
+static REFUSED: [(&str, Words); 32] = [
+    ("", Words::Unknown),
+    ("arrang p.toml a.stl", Words::Unknown),
+    ("--help", Words::Unknown),
+    ("arrange", Words::Usage),
+    ("arrange p.toml", Words::Usage),
+    ("arrange --help p.toml a.stl", Words::Usage),
+    ("arrange p.toml a.stl -h", Words::Usage),
+    ("arrange --least p.toml a.stl --least", Words::Usage),
+    ("arrange --budget 5 --budget=5 p.toml a.stl", Words::Usage),
+    ("arrange p.toml a.stl --budget", Words::Usage),
+    ("arrange --budget -5 p.toml a.stl", Words::Usage),
+    ("arrange --budget -- p.toml a.stl", Words::Usage),
+    ("arrange --least=yes p.toml a.stl", Words::Usage),
+    ("arrange --leas p.toml a.stl", Words::Usage),
+    (
+        "arrange --budget 0 p.toml a.stl",
+        Words::BadNumber(Opt::Budget),
+    ),
+    (
+        "arrange --budget 1000001 p.toml a.stl",
+        Words::BadNumber(Opt::Budget),
+    ),
+    (
+        "arrange --budget=00000000001 p.toml a.stl",
+        Words::BadNumber(Opt::Budget),
+    ),
+    (
+        "arrange --budget= p.toml a.stl",
+        Words::BadNumber(Opt::Budget),
+    ),
+    (
+        "arrange --budget=-5 p.toml a.stl",
+        Words::BadNumber(Opt::Budget),
+    ),
+    (
+        "arrange --budget +5 p.toml a.stl",
+        Words::BadNumber(Opt::Budget),
+    ),
+    ("check p.toml plan", Words::Usage),
+    ("check p.toml plan a.stl --strict", Words::Usage),
+    ("audit p.toml", Words::Usage),
+    ("slices p.toml", Words::Usage),
+    ("slices p.toml a.stl b.stl", Words::Usage),
+    ("trial 1", Words::Usage),
+    ("trial 1 -1", Words::Usage),
+    ("trial 0 0", Words::BadNumber(Opt::K)),
+    ("trial 17 x", Words::BadNumber(Opt::K)),
+    ("trial  0", Words::BadNumber(Opt::K)),
+    ("trial 1 4294967296", Words::BadNumber(Opt::N)),
+    ("trial -- 1 -1", Words::BadNumber(Opt::N)),
+];
+
 #[test]
 fn commands_are_read_as_the_words_spell_them(rt: HostRuntime) -> Result<(), Fail> {
     let alloc = rt.alloc();
-    for (line, want) in [
-        (
-            "arrange p.toml a.stl",
-            "arrange false false 20000 p.toml a.stl",
-        ),
-        (
-            "arrange --least p.toml a.stl b.stl",
-            "arrange true false 20000 p.toml a.stl b.stl",
-        ),
-        (
-            "arrange p.toml --strict a.stl --least b.stl",
-            "arrange true true 20000 p.toml a.stl b.stl",
-        ),
-        (
-            "arrange p.toml a.stl --budget 5",
-            "arrange false false 5 p.toml a.stl",
-        ),
-        (
-            "arrange --budget=5 p.toml a.stl",
-            "arrange false false 5 p.toml a.stl",
-        ),
-        (
-            "arrange --strict --budget 1000000 p.toml a.stl",
-            "arrange false true 1000000 p.toml a.stl",
-        ),
-        (
-            "arrange --budget 0000000007 p.toml a.stl",
-            "arrange false false 7 p.toml a.stl",
-        ),
-        (
-            "arrange p.toml a.stl a.stl",
-            "arrange false false 20000 p.toml a.stl a.stl",
-        ),
-        (
-            "arrange -- p.toml --least",
-            "arrange false false 20000 p.toml --least",
-        ),
-        (
-            "arrange p.toml -- --help --budget",
-            "arrange false false 20000 p.toml --help --budget",
-        ),
-        ("arrange - -", "arrange false false 20000 - -"),
-        ("check p.toml plan a.stl", "check p.toml plan a.stl"),
-        (
-            "check p.toml plan a.stl b.stl",
-            "check p.toml plan a.stl b.stl",
-        ),
-        (
-            "audit p.toml plan a.stl b.stl",
-            "audit p.toml plan a.stl b.stl",
-        ),
-        ("slices p1.toml cube.stl", "slices p1.toml cube.stl"),
-        ("slices -- --help arrange", "slices --help arrange"),
-        ("trial 1 0", "trial 1 0"),
-        ("trial 16 4294967295", "trial 16 4294967295"),
-        ("trial 01 0000000000", "trial 1 0"),
-    ] {
+    for (line, want) in &ACCEPTED {
         let words = words_of(alloc, line)?;
         let Ok(command) = read(alloc, words.as_slice()) else {
             return Err("refused".into());
         };
         let line = told(alloc, &command)?;
-        assert_eq!(rt; line.as_str(), want);
+        assert_eq!(rt; line.as_str(), *want);
     }
     let words = words_of(alloc, format!(in alloc; "check p q {SIXTEEN}")?.as_str())?;
     assert!(rt; read(alloc, words.as_slice()).is_ok());
@@ -141,60 +198,9 @@ fn words_are_refused_with_their_cause(rt: HostRuntime) -> Result<(), Fail> {
     let alloc = rt.alloc();
     let none: Vec<String> = Vec::new(alloc);
     assert!(rt; matches!(read(alloc, none.as_slice()), Err(Words::Unknown)));
-    for (line, want) in [
-        ("", Words::Unknown),
-        ("arrang p.toml a.stl", Words::Unknown),
-        ("--help", Words::Unknown),
-        ("arrange", Words::Usage),
-        ("arrange p.toml", Words::Usage),
-        ("arrange --help p.toml a.stl", Words::Usage),
-        ("arrange p.toml a.stl -h", Words::Usage),
-        ("arrange --least p.toml a.stl --least", Words::Usage),
-        ("arrange --budget 5 --budget=5 p.toml a.stl", Words::Usage),
-        ("arrange p.toml a.stl --budget", Words::Usage),
-        ("arrange --budget -5 p.toml a.stl", Words::Usage),
-        ("arrange --budget -- p.toml a.stl", Words::Usage),
-        ("arrange --least=yes p.toml a.stl", Words::Usage),
-        ("arrange --leas p.toml a.stl", Words::Usage),
-        (
-            "arrange --budget 0 p.toml a.stl",
-            Words::BadNumber(Opt::Budget),
-        ),
-        (
-            "arrange --budget 1000001 p.toml a.stl",
-            Words::BadNumber(Opt::Budget),
-        ),
-        (
-            "arrange --budget=00000000001 p.toml a.stl",
-            Words::BadNumber(Opt::Budget),
-        ),
-        (
-            "arrange --budget= p.toml a.stl",
-            Words::BadNumber(Opt::Budget),
-        ),
-        (
-            "arrange --budget=-5 p.toml a.stl",
-            Words::BadNumber(Opt::Budget),
-        ),
-        (
-            "arrange --budget +5 p.toml a.stl",
-            Words::BadNumber(Opt::Budget),
-        ),
-        ("check p.toml plan", Words::Usage),
-        ("check p.toml plan a.stl --strict", Words::Usage),
-        ("audit p.toml", Words::Usage),
-        ("slices p.toml", Words::Usage),
-        ("slices p.toml a.stl b.stl", Words::Usage),
-        ("trial 1", Words::Usage),
-        ("trial 1 -1", Words::Usage),
-        ("trial 0 0", Words::BadNumber(Opt::K)),
-        ("trial 17 x", Words::BadNumber(Opt::K)),
-        ("trial  0", Words::BadNumber(Opt::K)),
-        ("trial 1 4294967296", Words::BadNumber(Opt::N)),
-        ("trial -- 1 -1", Words::BadNumber(Opt::N)),
-    ] {
+    for (line, want) in &REFUSED {
         let words = words_of(alloc, line)?;
-        assert_eq!(rt; read(alloc, words.as_slice()).err(), Some(want));
+        assert_eq!(rt; read(alloc, words.as_slice()).err(), Some(*want));
     }
     for (head, want) in [
         ("arrange p.toml", Words::TooMany),
