@@ -8,7 +8,7 @@
 //! contracts, and the other modules of `specs/` the geometry, from weights and turns to the polygon of any list.
 #![tactic(auto)]
 
-ghost use Rattle.std.specs.Prelude.{◌≡◌, List, [], reverse, IfOk, All, Contains, ◌<◌, ◌^◌, pos, ◌-ℤ◌, unsigned_abs, ◌↔◌};
+ghost use Rattle.std.specs.Prelude.{◌≡◌, List, [], reverse, IfOk, All, Contains, ◌<◌, ◌^◌, ◌-ℤ◌, unsigned_abs, ◌↔◌};
 ghost use Rattle.seq_model.specs.declared.printer.Spot.{Spot};
 ghost use Rattle.seq_model.specs.Points.{Point};
 ghost use Rattle.seq_model.specs.Outlines.{Inner, Within};

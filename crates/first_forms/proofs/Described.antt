@@ -1,5 +1,5 @@
 -- The reading of the six lines, and the sizes that they state.
-use Rattle.std.proofs.Common.{◌≡◌, ℕ, ◌*◌, ◌/◌, ◌<◌, ◌≤◌, List, [], ◌∷◌, ◌++◌, length, cond, eqb, Option, Some, None, codes, decimal, IfNone, refl, sym, ap, subst, ◌∙◌, arith}
+use Rattle.std.proofs.Common.{◌≡◌, ℕ, ◌*◌, ◌/◌, ◌<◌, ◌≤◌, List, [], ◌++◌, length, cond, eqb, Option, Some, None, codes, decimal, IfNone, refl, sym, ap, subst, ◌∙◌, arith}
 use Rattle.std.proofs.Math.Nat.{mul-div_cancel}
 use Rattle.std.proofs.lemmas.Int.{ints}
 use Rattle.std.proofs.lemmas.Bool.Decides.{nat_tests}
@@ -13,7 +13,7 @@ use Rattle.first_forms.specs.declared.description.Numbers.{Numbers}
 use Rattle.first_forms.specs.declared.description.Sizes.{Sizes}
 use Rattle.first_forms.specs.Descriptions.{description_text, AreNear, States, NoSizes, PrinterOf, IsNoPrinter, description_with}
 use Rattle.first_forms.specs.Readers.{number_after, numbers_at}
-use Rattle.first_forms.proofs.Fields.{TakesNumber, number_takes, number_again}
+use Rattle.first_forms.proofs.Fields.{number_takes, number_again}
 
 pub numbers_read : (n : Numbers) (bytes a b c d e f : List ℕ) → number_after (codes "format = 1\ngrain = ") bytes ≡ Some (n.grain, a) → number_after (codes "\nplate = [") a ≡ Some (n.width, b)
     → number_after (codes ", ") b ≡ Some (n.depth, c) → number_after (codes "]\nstep = ") c ≡ Some (n.step, d) → number_after (codes "\nmargin = ") d ≡ Some (n.margin, e)

@@ -1,7 +1,6 @@
 -- The laws of one number after a fixed text, both ways.
-use Rattle.std.proofs.Common.{◌≡◌, ◌≢◌, ℕ, ◌≤◌, ◌<◌, ◌^◌, ℤ, pos, negsuc, List, [], ◌++◌, Bool, true, false, cond, ◌||◌, Option, Some, None, option_and_then, decimal, unsigned_abs, refl, sym, ap, ◌∙◌, arith, int_lt}
+use Rattle.std.proofs.Common.{◌≡◌, ℕ, ◌≤◌, ℤ, pos, negsuc, List, ◌++◌, Bool, true, false, cond, ◌||◌, Option, Some, None, decimal, unsigned_abs, refl, sym, ap, ◌∙◌, arith, int_lt}
 use Rattle.std.proofs.lemmas.Bool.Decides.{nat_tests}
-use Rattle.std.proofs.lemmas.Int.{ints}
 use Rattle.seq_num.specs.Reading.{literal_at, digit_count, whole_at}
 use Rattle.seq_num.specs.Spelling.{spelling}
 use Rattle.seq_num.specs.Laws.Reading.{step_some, literal_takes, literal_again, whole_takes, whole_again}

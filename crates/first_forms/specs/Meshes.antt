@@ -13,7 +13,7 @@
 --   mesh_text name facets    the lines of these facets, their coordinates in mm
 --   in_micrometres f         the facet f of mm, in µm
 --   MeshOf bytes facets      the bytes are the plain text of these facets
-use Rattle.std.specs.Prelude.{◌≡◌, ◌≤◌, ◌<◌, ℕ, ℤ, pos, ◌*ℤ◌, List, [], ◌∷◌, ◌++◌, length, map, All, codes, unsigned_abs}
+use Rattle.std.specs.Prelude.{◌≡◌, ◌≤◌, ℕ, ℤ, pos, ◌*ℤ◌, List, [], ◌∷◌, ◌++◌, length, map, All, codes, unsigned_abs}
 use Rattle.std.specs.Char.{is_ascii_alphanumeric}
 use Rattle.std.specs.List.{AllPass}
 use Rattle.seq_model.specs.declared.mesh.Point3.{Point3}

@@ -1,6 +1,6 @@
 -- How the first forms are read from the first byte on: what a piece of text at the front gives, and the bytes after it.
 -- None of this is a promise: that the readers take just the texts of `Descriptions` and `Meshes` is proved.
-use Rattle.std.specs.Prelude.{◌≡◌, ◌≤◌, ◌++◌, map, All, ℕ, ℤ, ◌+◌, List, [], ◌∷◌, length, take, drop, Bool, ◌||◌, int_lt, pos, ◌==◌, nat_lt, nat_le, if◌then◌else◌, Option, Some, None, codes, option_and_then, unsigned_abs}
+use Rattle.std.specs.Prelude.{◌≡◌, ◌≤◌, ◌++◌, map, All, ℕ, ℤ, ◌+◌, List, [], ◌∷◌, length, take, drop, ◌||◌, int_lt, pos, ◌==◌, nat_lt, nat_le, if◌then◌else◌, Option, Some, None, codes, option_and_then, unsigned_abs}
 use Rattle.std.specs.Char.{is_ascii_alphanumeric}
 use Rattle.seq_model.specs.declared.mesh.Point3.{Point3}
 use Rattle.seq_model.specs.declared.mesh.Facet.{Facet}

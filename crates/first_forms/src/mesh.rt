@@ -1,4 +1,4 @@
-ghost use Rattle.std.specs.Prelude.{◌≡◌, ◌≤◌, ◌<◌, ◌↔◌, ◌∷◌, [], ℕ, List, length, IfOk, IsErrOf, IsTrue, IfSome, map, unsigned_abs, All};
+ghost use Rattle.std.specs.Prelude.{◌≡◌, ◌≤◌, ◌<◌, ◌↔◌, ℕ, List, length, IfOk, IsErrOf, IsTrue, IfSome, unsigned_abs};
 ghost use Rattle.std.specs.Option.{option_map};
 ghost use Rattle.seq_model.specs.declared.mesh.Facet.{Facet};
 ghost use Rattle.first_forms.specs.Meshes.{MeshOf, IsNoMesh, last_line, AreNear, IsNear, HasThreeCorners, IsTriangle, in_micrometres, point_in_micrometres};

@@ -1,11 +1,11 @@
 -- Every spot of every band lies between the spots round the extremes of the vertices.
-use Rattle.std.proofs.Common.{◌≡◌, ℕ, Bool, true, ℤ, pos, ◌+ℤ◌, ◌-ℤ◌, ◌*ℤ◌, neg_ℤ, ◌≤ℤ◌, ◌<ℤ◌, List, [], ◌∷◌, ◌++◌, All, ◌&&◌, arith, refl, map, Contains}
+use Rattle.std.proofs.Common.{◌≡◌, ℕ, ℤ, pos, ◌+ℤ◌, ◌-ℤ◌, ◌*ℤ◌, ◌≤ℤ◌, ◌<ℤ◌, List, [], ◌∷◌, ◌++◌, All, ◌&&◌, arith}
 use Rattle.std.proofs.lemmas.Int.{ints}
 use Rattle.std.proofs.lemmas.List.Elements.{All-nil, All-cons, All-append}
 use Rattle.std.specs.Int.Signed.{lt_z, le_z}
 use Rattle.integer_laws.specs.Order.{mul_le, mul_positive, add_le, le_from}
 use Rattle.integer_laws.specs.Ring.{expand}
-use Rattle.integer_laws.specs.Quotients.{floor, ceil, floor_below, ceil_above, floor_le_ceil}
+use Rattle.integer_laws.specs.Quotients.{floor_below, ceil_above, floor_le_ceil}
 use Rattle.seq_model.specs.declared.mesh.Point3.{Point3}
 use Rattle.seq_model.specs.declared.mesh.Facet.{Facet}
 use Rattle.seq_model.specs.declared.printer.Spot.{Spot}

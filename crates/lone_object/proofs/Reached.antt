@@ -1,7 +1,7 @@
 -- The extremes of the spots are the spots round the extremes of the vertices.
-use Rattle.std.proofs.Common.{◌≡◌, ℕ, Bool, true, false, cond, ◌&&◌, ◌<◌, ◌≤◌, ℤ, pos, ◌+ℤ◌, ◌-ℤ◌, ◌*ℤ◌, ◌≤ℤ◌, ◌<ℤ◌, List, [], ◌∷◌, ◌++◌, length, Contains, All, map, refl, sym, ap, ◌∙◌, subst, arith, ◌⊎◌, inl, inr}
+use Rattle.std.proofs.Common.{◌≡◌, ℕ, Bool, true, false, ◌<◌, ◌≤◌, ℤ, pos, ◌+ℤ◌, ◌-ℤ◌, ◌*ℤ◌, ◌≤ℤ◌, ◌<ℤ◌, List, [], ◌∷◌, ◌++◌, length, Contains, All, refl, sym, ap, ◌∙◌, subst, arith, inl, inr}
 use Rattle.std.proofs.lemmas.Int.{ints}
-use Rattle.std.proofs.lemmas.List.Elements.{All-contains, Contains-append_left, Contains-append_right}
+use Rattle.std.proofs.lemmas.List.Elements.{Contains-append_left, Contains-append_right}
 use Rattle.std.specs.Int.Signed.{le_z}
 use Rattle.integer_laws.specs.Ring.{one-mul}
 use Rattle.seq_model.specs.declared.mesh.Point3.{Point3}
@@ -14,11 +14,11 @@ use Rattle.seq_model.specs.Bounds.{IsPrinter}
 use Rattle.seq_model.specs.Extremes.{least, greatest}
 use Rattle.seq_model.specs.Outlines.{below, above, four_spots, spots}
 use Rattle.seq_model.specs.Points.{Point}
-use Rattle.seq_model.specs.Scenes.{Scene, Between, SomeSpot, Spans, scene_of_files, description_of}
+use Rattle.seq_model.specs.Scenes.{Scene, SomeSpot, Spans, scene_of_files, description_of}
 use Rattle.integer_laws.specs.Members.{In, In-from_contains, In-map, All-in, All-from_in}
 use Rattle.lone_object.proofs.Members.{at_head, to_flat}
-use Rattle.lone_object.proofs.Running.{at, Running, Reaches, reaches_least, reaches_greatest, least_below, greatest_above}
-use Rattle.lone_object.proofs.InBand.{InBand, band_of}
+use Rattle.lone_object.proofs.Running.{at, Running, reaches_least, reaches_greatest, least_below, greatest_above}
+use Rattle.lone_object.proofs.InBand.{band_of}
 use Rattle.lone_object.proofs.Holding.{Around, AroundFacet, spot_below, spot_above, all_between}
 use Rattle.std.proofs.Math.Dec.{T}
 

@@ -1,5 +1,5 @@
 -- How far an inner point can lie, and why two outlines that only touch don't overlap.
-use Rattle.std.proofs.Common.{◌≡◌, ℕ, List, [], ◌∷◌, ap, sym, arith, ℤ, pos, negsuc, ◌+ℤ◌, ◌-ℤ◌, ◌*ℤ◌, ◌≤ℤ◌, ◌<ℤ◌, inl, inr, subst}
+use Rattle.std.proofs.Common.{◌≡◌, List, [], ◌∷◌, ap, sym, arith, ℤ, pos, negsuc, ◌+ℤ◌, ◌-ℤ◌, ◌*ℤ◌, ◌≤ℤ◌, ◌<ℤ◌, inl, inr, subst}
 use Rattle.std.proofs.lemmas.Int.{ints}
 use Rattle.integer_laws.specs.Members.{In}
 use Rattle.integer_laws.specs.Order.{cancel_lt, cancel_same, le_of_same, lt_from, same_from, add_lt_le, add_same, mul_lt, mul_le, mul_same, mul_positive}

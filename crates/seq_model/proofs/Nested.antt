@@ -1,8 +1,8 @@
 -- Regions are nested.
-use Rattle.std.proofs.Common.{◌≡◌, ℕ, ◌≤◌, ℤ, pos, negsuc, ◌+ℤ◌, ◌-ℤ◌, ◌*ℤ◌, ◌≤ℤ◌, ◌<ℤ◌, arith}
+use Rattle.std.proofs.Common.{ℕ, ◌≤◌, ℤ, pos, ◌+ℤ◌, ◌-ℤ◌, ◌*ℤ◌, ◌≤ℤ◌, arith}
 use Rattle.std.proofs.lemmas.Int.{ints}
 use Rattle.integer_laws.specs.Order.{mul_le}
-use Rattle.integer_laws.specs.Quotients.{floor, floor_le, floor_is}
+use Rattle.integer_laws.specs.Quotients.{floor_le, floor_is}
 use Rattle.seq_model.specs.Plates.{share_of, half_left, region_of}
 use Rattle.seq_model.specs.Scenes.{LiesWithin}
 use borrow.Author.Differences.{product_is}

@@ -1,5 +1,5 @@
 -- The worked examples of systems, contradictions and the number of nodes, for jobs of cubes and wedges.
-use Rattle.std.proofs.Common.{◌≡◌, ℕ, ◌^◌, List, [], ◌∷◌, ◌++◌, take, refl, ap, ◌∙◌, ℤ, pos, negsuc, length, arith, ◌≤ℤ◌, lit<, All}
+use Rattle.std.proofs.Common.{◌≡◌, List, [], ◌∷◌, ◌++◌, take, refl, ap, ◌∙◌, ℤ, pos, negsuc, arith, ◌≤ℤ◌, lit<}
 use Rattle.std.proofs.lemmas.Int.{ints}
 use Rattle.std.proofs.lemmas.List.Elements.{All-nil, All-cons, All-get_or}
 use Rattle.seq_model.specs.Budgets.{full_of}

@@ -3,7 +3,7 @@
 --   difference A B F     all a - b - f over members of the three lists
 --   IsContact job c      it names two different objects, a zone of each and a part, and bands of the zones meet
 --   points_of job c      the difference of the contact: over the earlier zone, the later zone and the part
-use Rattle.std.specs.Prelude.{◌≢◌, ℕ, ◌+◌, ◌<◌, ◌≤◌, List, ◌-ℤ◌, length, map, MatchOption}
+use Rattle.std.specs.Prelude.{◌≢◌, ◌+◌, ◌<◌, ◌≤◌, List, ◌-ℤ◌, length, map, MatchOption}
 use Rattle.std.specs.List.{flat_map}
 use Rattle.seq_model.specs.Jobs.{object_at, zone_at, part_at}
 use Rattle.seq_model.specs.declared.job.Job.{Job}

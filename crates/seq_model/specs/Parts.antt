@@ -3,7 +3,7 @@
 --   tip               part 0: the one point of the tip, at its own band
 --   IsNearPart p      its corners are at most 100,000 grains in size
 --   AreParts ps       the tip, then at most 12 listed parts, all near
-use Rattle.std.specs.Prelude.{ℕ, pos, ◌≡◌, ◌≤◌, List, [], ◌∷◌, length, take, All, Some, codes, unsigned_abs}
+use Rattle.std.specs.Prelude.{pos, ◌≡◌, ◌≤◌, List, [], ◌∷◌, length, take, All, Some, codes, unsigned_abs}
 use Rattle.seq_model.specs.declared.printer.Spot.{Spot}
 use Rattle.seq_model.specs.declared.printer.Part.{Part}
 

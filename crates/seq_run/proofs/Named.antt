@@ -1,5 +1,5 @@
 -- What the bytes that were read say of the files that the words name.
-use Rattle.std.proofs.Common.{◌≡◌, ℕ, ◌<◌, ◌≤◌, ◌^◌, ◌*◌, List, [], length, Option, Some, None, refl, sym, subst}
+use Rattle.std.proofs.Common.{◌≡◌, ℕ, ◌≤◌, ◌^◌, ◌*◌, List, length, Option, Some, None, refl, sym, subst}
 use Rattle.first_forms.specs.Descriptions.{PrinterOf, IsNoPrinter}
 use Rattle.first_forms.specs.Meshes.{MeshOf, IsNoMesh}
 use Rattle.first_forms.specs.declared.Unread.{Unread}
@@ -9,7 +9,7 @@ use Rattle.seq_io.specs.declared.mem_file.MemFile.{MemFile}
 use Rattle.seq_model.specs.Scenes.{Description}
 use Rattle.seq_model.specs.declared.mesh.Facet.{Facet}
 use Rattle.seq_run.specs.Answers.{PrintsPlan, IsArrangeable, UsesPrinter, UsesMesh, Arranges}
-use Rattle.seq_run.specs.Causes.{IsNoMeshFor, UsesSome, RefusesNamed, ReachesNamed, ExplainsNamed}
+use Rattle.seq_run.specs.Causes.{IsNoMeshFor, RefusesNamed, ReachesNamed, ExplainsNamed}
 use Rattle.seq_run.specs.Words.{Asked}
 use Rattle.seq_run.specs.declared.stop.Cause.TheVariants.{TooLong, NotYet}
 use Rattle.seq_run.specs.declared.stop.NamedFile.TheVariants.{Printer, Mesh}

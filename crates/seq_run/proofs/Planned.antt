@@ -1,17 +1,16 @@
 -- The plan of one object: its text, why it is valid, and why there is none.
-use Rattle.std.proofs.Common.{◌≡◌, ℕ, ◌≤◌, ◌<◌, pos, ◌≤ℤ◌, ℤ, List, [], ◌∷◌, ◌++◌, length, All, refl, sym, ap, ◌∙◌, subst, arith, append_assoc, append-nil}
+use Rattle.std.proofs.Common.{◌≡◌, ℕ, ◌≤◌, pos, ◌≤ℤ◌, ℤ, List, [], ◌∷◌, ◌++◌, refl, sym, ap, ◌∙◌, subst, arith, append_assoc, append-nil}
 use Rattle.std.proofs.lemmas.Int.{ints}
 use Rattle.std.proofs.lemmas.List.Elements.{All-contains}
 use Rattle.lone_object.specs.Lone.{FitsPlate, zero_place, lone_plan}
 use Rattle.seq_model.specs.Bands.{band_count}
-use Rattle.seq_model.specs.Bounds.{IsPrinter}
-use Rattle.seq_model.specs.Scenes.{Description, Scene, Between, SomeSpot, Spans, Valid, scene_of_files, description_of}
+use Rattle.seq_model.specs.Scenes.{Scene, Between, SomeSpot, Spans, Valid, scene_of_files, description_of}
 use Rattle.seq_model.specs.declared.mesh.Facet.{Facet}
 use Rattle.seq_model.specs.declared.plan.Place.{Place}
 use Rattle.seq_model.specs.declared.printer.Part.{Part}
 use Rattle.seq_model.specs.declared.printer.Printer.{Printer}
 use Rattle.seq_model.specs.declared.printer.Spot.{Spot}
-use Rattle.seq_run.specs.Answers.{IsZeroPlan, PrintsPlan, Fits, IsArrangeable}
+use Rattle.seq_run.specs.Answers.{PrintsPlan, IsArrangeable}
 use Rattle.seq_run.specs.PlanText.{head_text, scale_text, place_text, plan_text}
 
 pub pieces : (grid : ℕ) (place : Place) → (head_text grid ++ scale_text (pos 1)) ++ place_text place ≡ plan_text grid (lone_plan place)

@@ -3,7 +3,7 @@
 --   texts words      the words as bytes
 --   Asked            the names of the files that the words spell
 --   asked words      `arrange`, a printer and a mesh; or why the words are refused
-use Rattle.std.specs.Prelude.{◌≡◌, ℕ, List, [], ◌∷◌, map, Bool, false, ◌||◌, ◌==◌, if◌then◌else◌, Result, Ok, Err, string_bytes, String, codes}
+use Rattle.std.specs.Prelude.{ℕ, List, [], ◌∷◌, map, Bool, false, ◌||◌, ◌==◌, if◌then◌else◌, Result, Ok, Err, string_bytes, String, codes}
 use Rattle.std.specs.Str.{bytes_eq}
 use Rattle.std.specs.declared.alloc.Global.{Global}
 use Rattle.seq_run.specs.declared.words.WordsRefusal.{WordsRefusal}

@@ -2,7 +2,7 @@ ghost use Rattle.std.specs.Prelude.{◌≡◌, ◌⊎◌, IfOk, IfErr, OnOk, OnE
 ghost use Rattle.seq_io.specs.Counts.{HasCause};
 ghost use Rattle.seq_io.specs.Taken.{Grew, TookPart};
 ghost use Rattle.seq_run.specs.Causes.{name_of};
-ghost use Rattle.seq_run.specs.Messages.{status_of, words_line, detail_of, read_line, input_line, memory_line, line_of};
+ghost use Rattle.seq_run.specs.Messages.{status_of, words_line, detail_of, read_line, input_line, line_of};
 ghost use Rattle.seq_run.specs.Words.{texts};
 ghost use Rattle.seq_run.specs.declared.words.WordsRefusal.{WordsRefusal};
 

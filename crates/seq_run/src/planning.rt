@@ -1,5 +1,4 @@
-ghost use Rattle.std.specs.Prelude.{◌≡◌, ◌<◌, ◌≤◌, ◌++◌, codes, decimal, string_bytes, length, IfOk, IsErrOf, pos, ◌∷◌, []};
-ghost use Rattle.seq_num.specs.Spelling.{spelling};
+ghost use Rattle.std.specs.Prelude.{◌≡◌, ◌<◌, string_bytes, length, IfOk, IsErrOf};
 ghost use Rattle.seq_model.specs.Scenes.{description_of};
 ghost use Rattle.seq_run.specs.Answers.{IsArrangeable, PrintsPlan};
 ghost use Rattle.seq_run.specs.PlanText.{head_text, scale_text, place_text, plan_text};

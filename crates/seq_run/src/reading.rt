@@ -1,4 +1,4 @@
-ghost use Rattle.std.specs.Prelude.{◌≡◌, ◌≤◌, ◌⊎◌, Some, true, length, IfOk, IfErr, IsErrOf, IsTrue};
+ghost use Rattle.std.specs.Prelude.{◌≡◌, ◌≤◌, ◌⊎◌, Some, length, IfOk, IfErr, IsErrOf, IsTrue};
 ghost use Rattle.seq_io.specs.Counts.{Rose};
 ghost use Rattle.seq_io.specs.Files.{GivesFile, LongerThan};
 ghost use Rattle.seq_run.specs.Causes.{limit_of};

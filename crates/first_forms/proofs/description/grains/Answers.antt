@@ -1,7 +1,6 @@
-use Rattle.std.proofs.Common.{◌≡◌, ◌/◌, ◌*◌, ◌<◌, ◌≤◌, ap, ◌∙◌, arith}
+use Rattle.std.proofs.Common.{◌≡◌, ◌/◌, ◌<◌, ap, ◌∙◌, arith}
 use Rattle.std.proofs.Math.Nat.{mul-div_cancel}
 use Rattle.first_forms.proofs.Described.{if_none}
-use Rattle.first_forms.proofs.Fields.{TakesNumber}
 use Rattle.first_forms.proofs.description.grains.Goals as goal
 
 pub returns-clause-none : goal.returns-clause-none

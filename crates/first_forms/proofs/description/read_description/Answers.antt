@@ -1,4 +1,4 @@
-use Rattle.std.proofs.Common.{◌≡◌, rules}
+use Rattle.std.proofs.Common.{rules}
 use Rattle.first_forms.proofs.Described.{no_numbers, no_sizes, is_printer}
 use Rattle.first_forms.proofs.description.read_description.Goals as goal
 

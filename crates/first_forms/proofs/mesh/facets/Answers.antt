@@ -1,5 +1,4 @@
-use Rattle.std.proofs.Common.{◌≡◌, ◌<◌, length, Some, arith, rules}
-use Rattle.first_forms.specs.Meshes.{HasThreeCorners, IsTriangle}
+use Rattle.std.proofs.Common.{◌≡◌, Some, arith, rules}
 use Rattle.first_forms.specs.Readers.{facet_at}
 use Rattle.first_forms.proofs.Described.{mapped_some}
 use Rattle.first_forms.proofs.Facets.{too_many, flat_facet, one_more, smaller_rest, few}

@@ -1,7 +1,6 @@
-use Rattle.std.proofs.Common.{◌≡◌, ◌∙◌, ap, sym, Some, None, length, arith, rules}
+use Rattle.std.proofs.Common.{◌∙◌, ap, sym, arith, rules}
 use Rattle.std.proofs.lemmas.Bool.Decides.{nat_tests}
 use Rattle.std.specs.Option.{option_map}
-use Rattle.first_forms.specs.Readers.{first_line_at}
 use Rattle.first_forms.proofs.Described.{mapped_some}
 use Rattle.first_forms.proofs.Facets.{no_first_line, no_facet_list, no_facets, no_last_line, is_mesh, all_near, few}
 use Rattle.first_forms.proofs.mesh.read_mesh.Goals as goal

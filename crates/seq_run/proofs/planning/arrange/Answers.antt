@@ -1,5 +1,4 @@
-use Rattle.std.proofs.Common.{◌≡◌, ◌∙◌, ◌≤◌, rules, arith, ap, None, Some, Option, IsSome}
-use Rattle.lone_object.specs.Lone.{FitsPlate}
+use Rattle.std.proofs.Common.{◌∙◌, rules, ap}
 use Rattle.seq_model.specs.Bands.{band_count}
 use Rattle.seq_run.proofs.Planned.{spans_of, not_arrangeable, is_arrangeable, prints}
 use Rattle.seq_run.proofs.planning.arrange.Goals as goal

@@ -1,4 +1,4 @@
-use Rattle.std.proofs.Common.{◌≡◌, ◌∙◌, ◌++◌, ap, rules, pos, sym}
+use Rattle.std.proofs.Common.{◌≡◌, ◌∙◌, ◌++◌, rules, pos}
 use Rattle.seq_run.specs.PlanText.{head_text, scale_text, place_text}
 use Rattle.seq_run.proofs.Planned.{pieces}
 use Rattle.seq_run.proofs.planning.plan_text.Goals as goal

@@ -1,4 +1,4 @@
-use Rattle.std.proofs.Common.{rules, ◌≡◌, ◌≤◌, List, ℕ, length, subst, ap, Err, Option}
+use Rattle.std.proofs.Common.{rules, List, ℕ, subst, ap, Err, Option}
 use Rattle.first_forms.specs.Descriptions.{PrinterOf}
 use Rattle.first_forms.specs.Meshes.{MeshOf, IsNoMesh}
 use Rattle.seq_io.specs.Files.{GivesFile}
