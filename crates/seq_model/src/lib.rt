@@ -14,9 +14,11 @@ mod mesh;
 mod plan;
 mod plate;
 mod printer;
+mod what;
 
 pub use extent::region;
 pub use mesh::{Facet, Mesh, Point3};
 pub use plan::{Place, Plan};
 pub use plate::Region;
 pub use printer::{Part, Printer, Spot};
+pub use what::What;

@@ -1,0 +1,3 @@
+pub mod PlanText
+pub mod Lines
+pub mod Reading

@@ -1,0 +1,10 @@
+//! The text of a plan file, written and read.
+#![tactic(auto)]
+
+mod file;
+mod lines;
+mod reading;
+
+pub use file::{PlanFile, State};
+pub use lines::number_line;
+pub use reading::PlanRead;
