@@ -6,7 +6,7 @@
 --   places_from room found bytes  == the places found so far and those at the front, of which there is room for so many
 --   body_at state grid bytes      == the file, from the extent on to the last place line
 --   file_at bytes                 == the file, up to the end of the plan's own lines
---   ended file rest               == the rest, where it may stand behind the file's lines
+--   ended file rest               == nothing to refuse, where the rest may stand behind the file's lines
 --   plan_answer bytes             == the answer: the file and the place where its lines end, or the refusal
 use Rattle.std.specs.Prelude.{ℕ, pos, ◌+◌, ◌-◌, zero, suc, unsigned_abs, ◌==◌, List, [], ◌∷◌, ◌++◌, length, Bool, ◌||◌, if◌then◌else◌, Result, Ok, Err, Option, Some, None, codes}
 use Rattle.std.specs.Option.{ok_or}
@@ -80,13 +80,13 @@ file_at bytes = do
   head ← head_at bytes
   if has_places head.0 then body_at head.0 head.1 head.2 else Ok (bare head.0 head.1, head.2)
 
-unfoldable pub ended : PlanFile → List ℕ → Result (List ℕ) PlanRead
+unfoldable pub ended : PlanFile → List ℕ → Result (Unit {0}) PlanRead
 ended file rest =
-  if is_block_due file.state file.extent || (length rest == 0) then Ok rest
+  if is_block_due file.state file.extent || (length rest == 0) then Ok tt
   else (if has_line_end rest then Err refused.Trailing else Err refused.Missing)
 
 unfoldable pub plan_answer : List ℕ → Result (PlanFile × ℕ) PlanRead
 plan_answer bytes = do
   file ← file_at bytes
-  rest ← ended file.0 file.1
-  Ok (file.0, length bytes - length rest)
+  end ← ended file.0 file.1
+  Ok (file.0, length bytes - length file.1)

@@ -4,7 +4,9 @@
 mod file;
 mod lines;
 mod reading;
+mod writing;
 
 pub use file::{PlanFile, State};
 pub use lines::number_line;
-pub use reading::PlanRead;
+pub use reading::{PlanRead, read_plan};
+pub use writing::write_plan;

@@ -1,0 +1,6 @@
+pub mod Chains
+pub mod Options
+pub mod Divisors
+pub mod Placing
+pub mod Heads
+pub mod Bodies
