@@ -15,7 +15,7 @@ use Rattle.plan_text.specs.PlanText.{number_line, places_text, body_text, IsPlac
 use Rattle.plan_text.specs.Lines.{number_line_at}
 use Rattle.plan_text.specs.Laws.{number_line_takes, number_line_again}
 use Rattle.plan_text.specs.Reading.{◌>>=◌, refusal, divisor_of, places_from, body_at}
-use Rattle.plan_text.proofs.Chains.{step_ok, was_there, same_ok, err_is_not_ok}
+use Rattle.plan_text.proofs.Chains.{step_ok, was_there, was_read, same_ok, err_is_not_ok}
 use Rattle.plan_text.proofs.Divisors.{no_divisor_from, no_divisor_to}
 use Rattle.plan_text.proofs.Placing.{places_takes, places_again}
 
@@ -27,6 +27,9 @@ scale_due bytes = ok_or (number_line_at (codes "scale ") 4_611_686_018_427_387_9
 
 abbrev pub file_with : State → ℕ → ℕ → ℕ → List Place → PlanFile
 file_with state grid extent scale places = record { state = state; grid = grid; extent = extent; plan = record { scale = pos scale; places = places } }
+
+pub made : (state : State) (grid extent scale : ℕ) (z : ℤ) (ps places : List Place) → z ≡ pos scale → ps ≡ places → record { state = state; grid = grid; extent = extent; plan = record { scale = z; places = ps } } ≡ file_with state grid extent scale places
+made state grid extent scale z ps places scale_is places_are = rw (scale_is, places_are) refl
 
 -- ---- its steps
 pub no_extent : (state : State) (grid : ℕ) (bytes : List ℕ) (e : PlanRead) → extent_due grid bytes ≡ Err e → body_at state grid bytes ≡ Err e
@@ -62,8 +65,10 @@ pub record TakesBody (state : State) (grid : ℕ) (bytes rest : List ℕ) (f : P
 regroup : (a b c rest : List ℕ) → (a ++ (b ++ c)) ++ rest ≡ a ++ (b ++ (c ++ rest))
 regroup a b c rest = simp append_assoc
 
-tested : (b : Bool) (f g : PlanFile) (r rest : List ℕ) → cond {A = Result (PlanFile × List ℕ) PlanRead} b (Ok (f, r)) (Err (refused.Line 5 what.Scale)) ≡ Ok (g, rest) → (b ≡ true) × ((f, r) ≡ (g, rest))
-tested true f g r rest e = (refl, same_ok _ _ _ e refl)
+tested : (b : Bool) (f g : PlanFile) (r rest : List ℕ) → cond {A = Result (PlanFile × List ℕ) PlanRead} b (Ok (f, r)) (Err (refused.Line 5 what.Scale)) ≡ Ok (g, rest) → (b ≡ true) × (f ≡ g) × (r ≡ rest)
+tested true f g r rest e =
+    let both = same_ok _ (f, r) (g, rest) refl e in
+    (refl, ap (λ (q : PlanFile × List ℕ). q.0) both, ap (λ (q : PlanFile × List ℕ). q.1) both)
 tested false f g r rest e = absurd (err_is_not_ok _ (g, rest) _ refl e)
 
 pub body_takes : (state : State) (grid : ℕ) (bytes rest : List ℕ) (f : PlanFile) → body_at state grid bytes ≡ Ok (f, rest) → TakesBody state grid bytes rest f
@@ -97,7 +102,7 @@ body_takes state grid bytes rest f e =
       placed = placed;
       ended = places.ended;
     } in
-    subst (λ (q : PlanFile × List ℕ). TakesBody state grid bytes q.1 q.0) t.1 taken
+    subst (λ (h : PlanFile). TakesBody state grid bytes rest h) t.1 (subst (λ r. TakesBody state grid bytes r g) t.2 taken)
 
 again_with : (state : State) (grid extent scale : ℕ) (places : List Place) (rest : List ℕ) → grid ≤ 1_000 → IsPlaced (file_with state grid extent scale places) → begins_place rest ≡ false
     → body_at state grid (body_text extent (record { scale = pos scale; places = places }) ++ rest) ≡ Ok (file_with state grid extent scale places, rest)
@@ -109,8 +114,8 @@ again_with state grid extent scale places rest few placed ended =
     let one : eqb (divisor_of scale places) 1 ≡ true = grind (arith, nat_tests, no_divisor_to places scale placed.reduced.one) in
     ap (body_at state grid) (regroup (number_line (codes "extent ") (pos extent)) (number_line (codes "scale ") (pos scale)) (places_text places) rest)
     ∙ whole_body state grid extent scale places (number_line (codes "extent ") (pos extent) ++ a) a b rest
-      (ap (λ o. ok_or o _) (number_line_again (codes "extent ") grid extent a placed.extent_low placed.extent_high (omega arith)))
-      (ap (λ o. ok_or o _) (number_line_again (codes "scale ") 4_611_686_018_427_387_903 scale b low high (omega arith)))
+      (was_read _ (number_line_again (codes "extent ") grid extent a placed.extent_low placed.extent_high (omega arith)))
+      (was_read _ (number_line_again (codes "scale ") 4_611_686_018_427_387_903 scale b low high (omega arith)))
       (places_again places 16 [] rest placed.places placed.few ended)
       one
 

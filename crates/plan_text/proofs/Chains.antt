@@ -16,6 +16,9 @@ pub was_there : {A : Type 0} (o : Option A) (e : PlanRead) (x : A) → ok_or {E 
 was_there None e x h = absurd cc
 was_there (Some y) e x h = cc
 
+pub was_read : {A : Type 0} {o : Option A} {x : A} (e : PlanRead) → o ≡ Some x → ok_or {E = PlanRead} o e ≡ Ok x
+was_read e h = ap (λ p. ok_or p e) h
+
 -- what a call's result, seen through f, says of the definition's
 pub mapped_ok : {A B : Type 0} (f : A → B) (r : Result A PlanRead) (y : Result B PlanRead) (x : A) → result_map_both f (λ e. e) r ≡ y → r ≡ Ok x → y ≡ Ok (f x)
 mapped_ok f r y x e h = sym e ∙ ap (result_map_both f (λ e. e)) h
@@ -35,3 +38,6 @@ err_is_not_ok e x r h k = absurd (cc)
 
 pub same_ok : {A : Type 0} (r : Result A PlanRead) (a b : A) → r ≡ Ok a → r ≡ Ok b → a ≡ b
 same_ok r a b h k = cc
+
+pub handed_on : {A B : Type 0} (f : A → B) (r : Result A PlanRead) (y : Result B PlanRead) (e : PlanRead) → r ≡ Err e → y ≡ Err e → result_map_both f (λ e. e) r ≡ y
+handed_on f r y e is h = ap (result_map_both f (λ e. e)) is ∙ sym h

@@ -142,7 +142,7 @@ fn divisor_of(scale: u64, places: &[Place]) -> u128
 
 // The file of this state and grid, from the extent on.
 fn body(alloc: Global, state: State, grid: u32, bytes: &[u8]) -> Result<(PlanFile, &[u8]), PlanRead>
-    ensures answer { result ≢ Err PlanRead.NoMemory → result_map_both (λ x. (x.0, x.1.now)) (λ e. e) result ≡ body_at state grid bytes.now }
+    ensures { result ≢ Err PlanRead.NoMemory → result_map_both (λ x. (x.0, x.1.now)) (λ e. e) result ≡ body_at state grid bytes.now }
 {
     let (extent, rest) = due(bytes, b"extent ", u64::from(grid), 4, What::Extent)?;
     let (scale, rest) = due(rest, b"scale ", (1 << 62) - 1, 5, What::Scale)?;
@@ -180,7 +180,7 @@ fn bare(alloc: Global, state: State, grid: u32) -> PlanFile
 // The file of the plan's own lines, and the bytes after them.
 #[tactic(auto, unfolding(crate::specs::Reading::file_at))]
 fn file(alloc: Global, bytes: &[u8]) -> Result<(PlanFile, &[u8]), PlanRead>
-    ensures answer { result ≢ Err PlanRead.NoMemory → result_map_both (λ x. (x.0, x.1.now)) (λ e. e) result ≡ file_at bytes.now }
+    ensures { result ≢ Err PlanRead.NoMemory → result_map_both (λ x. (x.0, x.1.now)) (λ e. e) result ≡ file_at bytes.now }
 {
     let (state, grid, rest) = head(bytes)?;
     if state.has_places() {
