@@ -1,20 +1,18 @@
 -- The reading from the extent on: its steps, what it takes, and that it takes what is written.
-use Rattle.std.proofs.Common.{◌≡◌, ℕ, ◌+◌, ◌-◌, ◌≤◌, ◌<◌, ◌^◌, ℤ, pos, ◌≤ℤ◌, ◌<ℤ◌, unsigned_abs, List, [], ◌∷◌, ◌++◌, length, Bool, true, false, cond, eqb, Option, Some, None, Result, Ok, Err, All, codes, refl, sym, ap, ◌∙◌, subst, arith, append_assoc}
+use Rattle.std.proofs.Common.{◌≡◌, ℕ, ◌≤◌, ℤ, pos, ◌≤ℤ◌, unsigned_abs, List, [], ◌++◌, length, Bool, true, false, cond, eqb, Result, Ok, Err, All, codes, refl, sym, ap, ◌∙◌, subst, arith, append_assoc}
 use Rattle.std.proofs.lemmas.Bool.Decides.{nat_tests}
 use Rattle.std.proofs.lemmas.Int.{ints}
 use Rattle.std.specs.Option.{ok_or}
-use Rattle.seq_num.specs.Spelling.{spelling}
 use Rattle.seq_model.specs.declared.plan.Place.{Place}
-use Rattle.seq_model.specs.declared.plan.Plan.{Plan}
 use Rattle.seq_model.specs.declared.what.What.TheVariants as what
 use Rattle.plan_text.specs.declared.file.State.{State}
 use Rattle.plan_text.specs.declared.file.PlanFile.{PlanFile}
 use Rattle.plan_text.specs.declared.reading.PlanRead.{PlanRead}
 use Rattle.plan_text.specs.declared.reading.PlanRead.TheVariants as refused
-use Rattle.plan_text.specs.PlanText.{number_line, places_text, body_text, IsPlace, HasNoDivisor, IsPlaced, begins_place}
+use Rattle.plan_text.specs.PlanText.{number_line, places_text, body_text, IsPlace, IsPlaced, begins_place}
 use Rattle.plan_text.specs.Lines.{number_line_at}
 use Rattle.plan_text.specs.Laws.{number_line_takes, number_line_again}
-use Rattle.plan_text.specs.Reading.{◌>>=◌, refusal, divisor_of, places_from, body_at}
+use Rattle.plan_text.specs.Reading.{refusal, divisor_of, places_from, body_at}
 use Rattle.plan_text.proofs.Chains.{step_ok, was_there, was_read, same_ok, err_is_not_ok}
 use Rattle.plan_text.proofs.Divisors.{no_divisor_from, no_divisor_to}
 use Rattle.plan_text.proofs.Placing.{places_takes, places_again}

@@ -1,19 +1,15 @@
 -- The reading of a whole plan: what each part takes, and that it takes what is written.
-use Rattle.std.proofs.Common.{◌≡◌, ℕ, ◌+◌, ◌-◌, ◌≤◌, ◌<◌, ◌^◌, ℤ, pos, List, [], ◌∷◌, ◌++◌, length, take, drop, Bool, true, false, cond, eqb, Option, Some, None, Result, Ok, Err, All, codes, refl, sym, ap, ◌∙◌, subst, arith, append_assoc}
+use Rattle.std.proofs.Common.{◌≡◌, ℕ, ◌≤◌, pos, List, [], ◌∷◌, ◌++◌, Option, Some, None, Ok, codes, refl, sym, ap, ◌∙◌, subst, arith, append_assoc}
 use Rattle.std.specs.Option.{ok_or}
-use Rattle.seq_num.specs.Spelling.{spelling}
 use Rattle.seq_num.specs.Reading.{literal_at}
 use Rattle.seq_num.specs.Laws.Reading.{literal_takes, literal_again}
-use Rattle.seq_model.specs.declared.plan.Place.{Place}
-use Rattle.seq_model.specs.declared.plan.Plan.{Plan}
 use Rattle.seq_model.specs.declared.what.What.TheVariants as what
 use Rattle.plan_text.specs.declared.file.State.{State}
 use Rattle.plan_text.specs.declared.file.State.TheVariants.{Found, Least, OpenBudget, OpenWide, NoPlan, UndecidedBudget, UndecidedWide}
 use Rattle.plan_text.specs.PlanText.{state_line, number_line, head_text}
 use Rattle.plan_text.specs.Lines.{or_later, first_named, state_line_at, number_line_at}
 use Rattle.plan_text.specs.Laws.{number_line_takes, number_line_again}
-use Rattle.plan_text.specs.declared.reading.PlanRead.{PlanRead}
-use Rattle.plan_text.specs.Reading.{◌>>=◌, refusal, head_at}
+use Rattle.plan_text.specs.Reading.{refusal, head_at}
 use Rattle.plan_text.proofs.Chains.{step_ok, was_there, same_ok}
 
 -- ---- the state
@@ -29,7 +25,7 @@ first_takes (s ∷ ss) bytes rest t e = named_takes s (literal_at (state_line s)
 
 pub state_takes : (bytes rest : List ℕ) (t : State) → state_line_at bytes ≡ Some (t, rest) → bytes ≡ state_line t ++ rest
 unfolding state_line_at
-state_takes bytes rest t e = first_takes _ bytes rest t e
+state_takes bytes rest t e = first_takes (Found ∷ Least ∷ OpenBudget ∷ OpenWide ∷ NoPlan ∷ UndecidedBudget ∷ UndecidedWide ∷ []) bytes rest t e
 
 pub state_again : (s : State) (rest : List ℕ) → state_line_at (state_line s ++ rest) ≡ Some (s, rest)
 unfolding state_line_at literal_at
@@ -56,7 +52,7 @@ head_takes bytes rest state grid e =
     let a = step_ok (ok_or (literal_at (codes "seqplan 1\n") bytes) (refusal 1 what.Header bytes)) _ (state, grid, rest) e in
     let s = step_ok (ok_or (state_line_at a.0) (refusal 2 what.State a.0)) _ (state, grid, rest) a.2 in
     let g = step_ok (ok_or (number_line_at (codes "grid ") 1_000 s.0.1) (refusal 3 what.Grid s.0.1)) _ (state, grid, rest) s.2 in
-    let end : (s.0.0, g.0.0, g.0.1) ≡ (state, grid, rest) = same_ok _ _ _ g.2 refl in
+    let end : (s.0.0, g.0.0, g.0.1) ≡ (state, grid, rest) = same_ok _ _ _ refl g.2 in
     let header = literal_takes (codes "seqplan 1\n") bytes a.0 (was_there _ _ a.0 a.1) in
     let line = state_takes a.0 s.0.1 s.0.0 (was_there _ _ s.0 s.1) in
     let number = number_line_takes (codes "grid ") 1_000 s.0.1 g.0.1 g.0.0 (was_there _ _ g.0 g.1) in

@@ -1,8 +1,7 @@
 -- The reading of place lines: its steps, and what it takes.
 use Rattle.std.proofs.Common.{◌≡◌, ℕ, zero, suc, ◌+◌, ◌-◌, ◌≤◌, ◌<◌, ◌^◌, ℤ, pos, negsuc, unsigned_abs, List, [], ◌∷◌, ◌++◌, length, Bool, true, false, cond, ◌||◌, int_lt, ltb, Option, Some, None, Result, Ok, Err, All, codes, refl, sym, ap, ◌∙◌, subst, arith, append_assoc, append-nil, length-append}
 use Rattle.std.proofs.lemmas.Bool.Decides.{nat_tests}
-use Rattle.std.proofs.lemmas.Int.{ints}
-use Rattle.std.proofs.lemmas.List.Elements.{All-nil, All-cons, All-head, All-tail, All-push}
+use Rattle.std.proofs.lemmas.List.Elements.{All-nil, All-cons, All-head, All-tail}
 use Rattle.seq_num.specs.Spelling.{spelling}
 use Rattle.seq_num.specs.Reading.{literal_at, digit_count, whole_at}
 use Rattle.seq_num.specs.Laws.Spelling.{guard_some}

@@ -4,7 +4,6 @@
 --   number_line_again   the line of a number in the range is taken as this number
 use Rattle.std.proofs.Common.{◌≡◌, ℕ, ◌≤◌, ◌<◌, ◌^◌, ℤ, pos, negsuc, List, ◌++◌, Bool, true, false, cond, ◌||◌, int_lt, Option, Some, None, codes, unsigned_abs, refl, sym, ap, ◌∙◌, arith, append_assoc}
 use Rattle.std.proofs.lemmas.Bool.Decides.{nat_tests}
-use Rattle.std.proofs.lemmas.Int.{ints}
 use Rattle.seq_num.specs.Spelling.{spelling}
 use Rattle.seq_num.specs.Reading.{literal_at, whole_at}
 use Rattle.seq_num.specs.Laws.Reading.{step_some, literal_takes, literal_again, whole_takes, whole_again}

@@ -8,13 +8,12 @@
 --   file_at bytes                 == the file, up to the end of the plan's own lines
 --   ended file rest               == nothing to refuse, where the rest may stand behind the file's lines
 --   plan_answer bytes             == the answer: the file and the place where its lines end, or the refusal
-use Rattle.std.specs.Prelude.{ℕ, pos, ◌+◌, ◌-◌, zero, suc, unsigned_abs, ◌==◌, List, [], ◌∷◌, ◌++◌, length, Bool, ◌||◌, if◌then◌else◌, Result, Ok, Err, Option, Some, None, codes}
+use Rattle.std.specs.Prelude.{ℕ, pos, ◌+◌, ◌-◌, zero, suc, unsigned_abs, ◌==◌, List, [], ◌∷◌, ◌++◌, length, Bool, ◌||◌, if◌then◌else◌, Result, Ok, Err, codes}
 use Rattle.std.specs.Option.{ok_or}
 use Rattle.std.specs.List.{list_any}
 use Rattle.integer_laws.specs.Divisors.{gcd_is}
 use Rattle.seq_num.specs.Reading.{literal_at}
 use Rattle.seq_model.specs.declared.plan.Place.{Place}
-use Rattle.seq_model.specs.declared.plan.Plan.{Plan}
 use Rattle.seq_model.specs.declared.what.What.{What}
 use Rattle.seq_model.specs.declared.what.What.TheVariants as what
 use Rattle.plan_text.specs.declared.file.State.{State}

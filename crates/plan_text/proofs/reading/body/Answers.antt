@@ -1,10 +1,10 @@
-use Rattle.std.proofs.Common.{◌≡◌, ◌≢◌, ◌∙◌, ap, sym, true, false, Some, None, Err, Ok, eqb, pos, FitsSigned, arith, rules}
+use Rattle.std.proofs.Common.{◌≡◌, ◌∙◌, ap, sym, true, false, Err, Ok, eqb, pos, FitsSigned, arith, rules}
 use Rattle.std.proofs.lemmas.Int.{to_z-of_z}
 use Rattle.plan_text.specs.declared.file.PlanFile.{PlanFile}
 use Rattle.std.proofs.lemmas.Bool.Decides.{nat_tests}
-use Rattle.plan_text.specs.Reading.{divisor_of, places_from}
+use Rattle.plan_text.specs.Reading.{divisor_of}
 use Rattle.plan_text.proofs.Chains.{mapped_ok, mapped_err, answered_ok, answered_err, handed_on}
-use Rattle.plan_text.proofs.Bodies.{extent_due, scale_due, no_extent, no_scale, no_places, divided, whole_body, made}
+use Rattle.plan_text.proofs.Bodies.{no_extent, no_scale, no_places, divided, whole_body, made}
 use Rattle.plan_text.proofs.reading.body.Goals as goal
 
 pub returns-in_err-extent : goal.returns-in_err-extent

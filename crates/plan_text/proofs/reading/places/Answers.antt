@@ -1,8 +1,8 @@
-use Rattle.std.proofs.Common.{◌≡◌, ◌+◌, ◌<◌, ◌∙◌, ap, sym, true, false, Some, None, Err, Ok, length, length-append, All, [], ◌∷◌, ◌++◌, subst, arith, rules}
+use Rattle.std.proofs.Common.{◌≡◌, ◌+◌, ◌<◌, ◌∙◌, ap, sym, Some, None, Err, length, length-append, All, [], ◌∷◌, ◌++◌, subst, arith, rules}
 use Rattle.std.proofs.lemmas.List.Elements.{All-push}
 use Rattle.std.specs.Option.{option_map}
 use Rattle.seq_model.specs.declared.what.What.TheVariants as what
-use Rattle.plan_text.specs.PlanText.{begins_place, IsPlace}
+use Rattle.plan_text.specs.PlanText.{IsPlace}
 use Rattle.plan_text.specs.Lines.{place_at}
 use Rattle.plan_text.specs.Reading.{refusal}
 use Rattle.plan_text.proofs.Options.{mapped_some}
