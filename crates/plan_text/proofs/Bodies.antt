@@ -82,7 +82,7 @@ body_takes state grid bytes rest f e =
     let places = places_takes 16 [] p.0.0 s.0.1 p.0.1 p.1 in
     let all : p.0.0 ≡ places.more = places.are in
     let spelled : bytes ≡ number_line (codes "extent ") (pos x.0.0) ++ (number_line (codes "scale ") (pos s.0.0) ++ (places_text places.more ++ p.0.1)) =
-      extent.spelled ∙ ap (λ l. number_line (codes "extent ") (pos x.0.0) ++ l) (scale.spelled ∙ ap (λ l. number_line (codes "scale ") (pos s.0.0) ++ l) places.spelled) in
+    extent.spelled ∙ ap (λ l. number_line (codes "extent ") (pos x.0.0) ++ l) (scale.spelled ∙ ap (λ l. number_line (codes "scale ") (pos s.0.0) ++ l) places.spelled) in
     let one : divisor_of s.0.0 p.0.0 ≡ 1 = grind (arith, nat_tests, t.0) in
     let placed : IsPlaced g = record {
       extent_low = extent.low;
@@ -112,10 +112,10 @@ again_with state grid extent scale places rest few placed ended =
     let one : eqb (divisor_of scale places) 1 ≡ true = grind (arith, nat_tests, no_divisor_to places scale placed.reduced.one) in
     ap (body_at state grid) (regroup (number_line (codes "extent ") (pos extent)) (number_line (codes "scale ") (pos scale)) (places_text places) rest)
     ∙ whole_body state grid extent scale places (number_line (codes "extent ") (pos extent) ++ a) a b rest
-      (was_read _ (number_line_again (codes "extent ") grid extent a placed.extent_low placed.extent_high (omega arith)))
-      (was_read _ (number_line_again (codes "scale ") 4_611_686_018_427_387_903 scale b low high (omega arith)))
-      (places_again places 16 [] rest placed.places placed.few ended)
-      one
+    (was_read _ (number_line_again (codes "extent ") grid extent a placed.extent_low placed.extent_high (omega arith)))
+    (was_read _ (number_line_again (codes "scale ") 4_611_686_018_427_387_903 scale b low high (omega arith)))
+    (places_again places 16 [] rest placed.places placed.few ended)
+    one
 
 is_positive : (z : ℤ) → pos 1 ≤ℤ z → z ≡ pos (unsigned_abs z)
 is_positive z h = omega (arith, ints)

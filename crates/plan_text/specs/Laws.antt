@@ -43,7 +43,7 @@ number_line_takes keyword most bytes rest n e =
     let t = whole_takes a.0 w.0.1 w.0.0 w.1 in
     let last : w.0.1 ≡ codes "\n" ++ rest = literal_takes (codes "\n") w.0.1 l.0 l.1 ∙ ap (λ r. codes "\n" ++ r) g.left in
     let taken : bytes ≡ keyword ++ (spelling (pos n) ++ (codes "\n" ++ rest)) =
-      literal_takes keyword bytes a.0 a.1 ∙ ap (λ r. keyword ++ r) (t.spelled ∙ ap (λ z. spelling z ++ w.0.1) g.value ∙ ap (λ r. spelling (pos n) ++ r) last) in
+    literal_takes keyword bytes a.0 a.1 ∙ ap (λ r. keyword ++ r) (t.spelled ∙ ap (λ z. spelling z ++ w.0.1) g.value ∙ ap (λ r. spelling (pos n) ++ r) last) in
     record { spelled = taken ∙ sym (regroup keyword (spelling (pos n)) (codes "\n") rest); low = g.low; high = g.high }
 
 pub number_line_again : (keyword : List ℕ) (most n : ℕ) (rest : List ℕ) → 1 ≤ n → n ≤ most → most < 2 ^ 100 → number_line_at keyword most (number_line keyword (pos n) ++ rest) ≡ Some (n, rest)

@@ -55,11 +55,11 @@ divisor_of d (p ∷ ps) = divisor_of (divisor_with d p) ps
 -- the sixth line is the first place line
 unfoldable pub places_from : ℕ → List Place → List ℕ → Result (List Place × List ℕ) PlanRead
 places_from zero found bytes =
-  if begins_place bytes then Err (refusal (length found + 6) what.Place bytes) else Ok (found, bytes)
+    if begins_place bytes then Err (refusal (length found + 6) what.Place bytes) else Ok (found, bytes)
 places_from (suc room) found bytes =
-  if begins_place bytes
-  then (ok_or (place_at bytes) (refusal (length found + 6) what.Place bytes) >>= λ p. places_from room (found ++ p.0 ∷ []) p.1)
-  else Ok (found, bytes)
+    if begins_place bytes
+    then (ok_or (place_at bytes) (refusal (length found + 6) what.Place bytes) >>= λ p. places_from room (found ++ p.0 ∷ []) p.1)
+    else Ok (found, bytes)
 
 unfoldable pub body_at : State → ℕ → List ℕ → Result (PlanFile × List ℕ) PlanRead
 body_at state grid bytes = do
@@ -67,8 +67,8 @@ body_at state grid bytes = do
   scale ← ok_or (number_line_at (codes "scale ") 4_611_686_018_427_387_903 extent.1) (refusal 5 what.Scale extent.1)
   places ← places_from 16 [] scale.1
   if divisor_of scale.0 places.0 == 1
-    then Ok (record { state = state; grid = grid; extent = extent.0; plan = record { scale = pos scale.0; places = places.0 } }, places.1)
-    else Err (refused.Line 5 what.Scale)
+      then Ok (record { state = state; grid = grid; extent = extent.0; plan = record { scale = pos scale.0; places = places.0 } }, places.1)
+      else Err (refused.Line 5 what.Scale)
 
 -- a file without places
 abbrev pub bare : State → ℕ → PlanFile
@@ -81,8 +81,8 @@ file_at bytes = do
 
 unfoldable pub ended : PlanFile → List ℕ → Result (Unit {0}) PlanRead
 ended file rest =
-  if is_block_due file.state file.extent || (length rest == 0) then Ok tt
-  else (if has_line_end rest then Err refused.Trailing else Err refused.Missing)
+    if is_block_due file.state file.extent || (length rest == 0) then Ok tt
+    else (if has_line_end rest then Err refused.Trailing else Err refused.Missing)
 
 unfoldable pub plan_answer : List ℕ → Result (PlanFile × ℕ) PlanRead
 plan_answer bytes = do

@@ -11,7 +11,7 @@ pub returns-in_err-file : goal.returns-in_err-file
 returns-in_err-file c =
     let is : c.from_residual.result ≡ Err c.in_err-file.field-0.0 = search rules in
     let answer : c.from_residual.result ≢ Err refused.NoMemory → c.from_residual.result ≡ plan_answer c.args.bytes.now =
-      λ some. is ∙ sym (no_file _ _ (answered_err _ _ _ _ c.file.ensures c.in_err-file.was (λ wanting. some (is ∙ ap Err wanting)))) in
+    λ some. is ∙ sym (no_file _ _ (answered_err _ _ _ _ c.file.ensures c.in_err-file.was (λ wanting. some (is ∙ ap Err wanting)))) in
     record { answer = answer; read = search rules; all = all_of _ _ answer }
 
 pub returns-in_err-end : goal.returns-in_err-end
@@ -19,7 +19,7 @@ returns-in_err-end c =
     let is : c.from_residual-in_err-end.result ≡ Err c.in_err-end.field-0.0 = search rules in
     let read : file_at c.args.bytes.now ≡ Ok (c.in_ok-file.file, c.in_ok-file.rest.now) = answered_ok _ _ _ _ c.file.ensures c.in_ok-file.was in
     let answer : c.from_residual-in_err-end.result ≢ Err refused.NoMemory → c.from_residual-in_err-end.result ≡ plan_answer c.args.bytes.now =
-      λ some. is ∙ sym (no_end _ _ _ _ read (sym c.end.ensures ∙ c.in_err-end.was)) in
+    λ some. is ∙ sym (no_end _ _ _ _ read (sym c.end.ensures ∙ c.in_err-end.was)) in
     record { answer = answer; read = search rules; all = all_of _ _ answer }
 
 pub overflow_sub-result : goal.overflow_sub-result
