@@ -6,7 +6,9 @@
 //!
 //! What a reader of the project has to believe stands in `specs/`, one module for each subject: `Bands`
 //! (the corner points of a band), `Outlines` (its spots, and inner points), `Plates` (the region of an
-//! extent) and `Scenes` (collisions, and when a plan is valid). The only call here is `region`.
+//! extent) and `Scenes` (collisions, and when a plan is valid); then `Soundness` and `Jobs`, `Contacts`, `Sides`,
+//! `Systems`, `Trees`, `Splits`, `Budgets`, `Dictionaries` and `Walks`, for the search and its certificates. The only
+//! call here is `region`; `laws` has two laws over the definitions.
 #![tactic(auto)]
 
 mod extent;
@@ -17,6 +19,7 @@ mod plan;
 mod plate;
 mod printer;
 mod tree;
+mod what;
 
 pub use extent::region;
 pub use job::{Job, Object, Zone};
@@ -25,3 +28,4 @@ pub use plan::{Place, Plan};
 pub use plate::Region;
 pub use printer::{Part, Printer, Spot};
 pub use tree::{Choice, Contact, Dir, Mult, Node, RatPoint, Tree, WideNote};
+pub use what::What;

@@ -1,0 +1,7 @@
+pub mod Chains
+pub mod Options
+pub mod Divisors
+pub mod Placing
+pub mod Heads
+pub mod Bodies
+pub mod Answering

@@ -1,0 +1,4 @@
+pub mod PlanText
+pub mod Lines
+pub mod Reading
+pub mod Laws
