@@ -136,5 +136,5 @@ abbrev pub part : List ℕ → ℕ → ℕ → Reading Part
 part bytes at count = do
   word ← next bytes at
   choice (IsSpelled (letters bytes word) (codes "facet"))
-    (next_facet bytes word.to count)
-    (choice (IsSpelled (letters bytes word) (codes "endsolid")) (ending bytes word.to) (refuses (Expected Keywords.FacetOrEndsolid word.from)))
+      (next_facet bytes word.to count)
+      (choice (IsSpelled (letters bytes word) (codes "endsolid")) (ending bytes word.to) (refuses (Expected Keywords.FacetOrEndsolid word.from)))

@@ -56,7 +56,7 @@ File bytes = choice (IsBinary bytes) (refuses Binary) (
       at ← opening bytes 0
       found ← body bytes at nothing
       choice (0 < count found) (gives found) (refuses NoFacet)
-  )
+    )
 
 abbrev pub MeshOf : List ℕ → List Facet → ℕ → Type 0
 MeshOf bytes facets dropped = Reads (File bytes) (Ok (record { facets = facets; dropped = dropped }))

@@ -14,10 +14,9 @@ mod mesh;
 mod parts;
 mod words;
 
+use decimal_lengths::Decimal;
 pub use facets::text_of;
 pub use mesh::read_mesh;
-
-use decimal_lengths::Decimal;
 
 /// A word that the grammar asks for.
 #[derive(Clone, Copy, Debug, PartialEq, Eq)]
@@ -48,6 +47,3 @@ pub enum Stl {
     NoFacet,
     NoMemory,
 }
-
-#[cfg(test)]
-mod tests;

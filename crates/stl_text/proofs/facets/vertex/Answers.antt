@@ -33,4 +33,4 @@ returns-clause-reads c =
     let y : FitsSigned w64 c.in_ok-y.y = search rules in
     let z : FitsSigned w64 c.in_ok-z.z = search rules in
     rw (to_z-of_z w64 c.in_ok-x.x x, to_z-of_z w64 c.in_ok-y.y y, to_z-of_z w64 c.in_ok-z.z z)
-      (passes_reads _ _ _ _ c.in_ok-at.ensures.reads (passes_reads _ _ _ _ c.in_ok-x.ensures.reads (passes_reads _ _ _ _ c.in_ok-y.ensures.reads (passes_reads _ _ _ _ c.in_ok-z.ensures.reads (gives_reads _)))))
+    (passes_reads _ _ _ _ c.in_ok-at.ensures.reads (passes_reads _ _ _ _ c.in_ok-x.ensures.reads (passes_reads _ _ _ _ c.in_ok-y.ensures.reads (passes_reads _ _ _ _ c.in_ok-z.ensures.reads (gives_reads _)))))
