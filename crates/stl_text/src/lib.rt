@@ -47,3 +47,6 @@ pub enum Stl {
     NoFacet,
     NoMemory,
 }
+
+#[cfg(test)]
+mod tests;
