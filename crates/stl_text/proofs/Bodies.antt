@@ -2,7 +2,7 @@
 --
 --   SoFar bytes first at found   these facets were found between first and at, and what the rest reads then, the body
 --                                from first on reads
-use Rattle.std.proofs.Common.{◌≡◌, ◌∙◌, ℕ, ◌+◌, ◌≤◌, ◌<◌, List, [], ◌∷◌, ◌++◌, length, length-append, sym, ap, refl, subst, arith, Ok, Err, Result, Option, Some, None, All, ◌⊎◌, inl, inr}
+use Rattle.std.proofs.Common.{◌≡◌, ◌∙◌, ℕ, ◌+◌, ◌≤◌, List, [], ◌∷◌, length, length-append, sym, refl, subst, arith, Ok, Err, Result, Some, None, All, ◌⊎◌, inl, inr}
 use Rattle.std.proofs.lemmas.List.Elements.{All-nil, All-cons, All-append}
 use Rattle.seq_model.specs.declared.mesh.Facet.{Facet}
 use Rattle.seq_model.specs.Bounds.{IsNearFacet}

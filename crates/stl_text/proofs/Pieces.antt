@@ -1,5 +1,5 @@
 -- How readings are put together: what the pieces read, and nothing else, the whole reads, and nothing else.
-use Rattle.std.proofs.Common.{◌≡◌, ◌∙◌, ℕ, ◌+◌, ◌≤◌, ◌<◌, ◌↔◌, ℤ, List, sym, ap, refl, subst, arith, Ok, Err, Result}
+use Rattle.std.proofs.Common.{◌≡◌, ◌∙◌, ℕ, ℤ, List, ap, refl, subst, Ok, Err, Result}
 use Rattle.decimal_lengths.specs.declared.Decimal.{Decimal}
 use Rattle.decimal_lengths.specs.Lengths.{IsReadAs}
 use Rattle.decimal_lengths.specs.Refusals.{Refuses}

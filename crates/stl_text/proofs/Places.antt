@@ -1,10 +1,9 @@
 -- Words and lines stand at one place only.
-use Rattle.std.proofs.Common.{◌≡◌, ◌∙◌, ℕ, ◌+◌, ◌≤◌, ◌<◌, Bool, true, false, List, length, min, slice_index, sym, ap, refl, subst, arith, Ok, Result}
+use Rattle.std.proofs.Common.{◌≡◌, ◌∙◌, ℕ, ◌+◌, ◌<◌, Bool, List, length, min, sym, ap, refl, subst, arith, Ok}
 use Rattle.stl_text.specs.declared.words.Word.{Word}
-use Rattle.stl_text.specs.declared.Stl.{Stl}
 use Rattle.stl_text.specs.Words.{is_white, is_black, ends_line, IsFirst, IsNext, IsRest}
 use Rattle.stl_text.specs.Reading.{Reads}
-use Rattle.stl_text.specs.Grammar.{next, rest, NextWord, RestOfLine}
+use Rattle.stl_text.specs.Grammar.{next, rest}
 
 not_before : (p : ℕ → Bool) (bytes : List ℕ) (at a b : ℕ) → IsFirst p bytes at a → IsFirst p bytes at b → (a < b → ⊥)
 not_before p bytes at a b f g h =

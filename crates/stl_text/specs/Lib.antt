@@ -3,3 +3,4 @@ pub mod Reading
 pub mod Grammar
 pub mod Meshes
 pub mod Progress
+pub mod Laws

@@ -8,7 +8,7 @@
 --   File bytes r                    the whole file reads r
 --   MeshOf bytes facets dropped     the bytes are a mesh of these facets, and nothing else
 --   IsRefused bytes e               the bytes are refused so, and nothing else
-use Rattle.std.specs.Prelude.{◌≡◌, ℕ, ◌+◌, ◌*◌, ◌≤◌, ◌<◌, List, [], ◌∷◌, ◌++◌, length, slice_index, Option, Some, None, Result, Ok, Err}
+use Rattle.std.specs.Prelude.{◌≡◌, ℕ, ◌+◌, ◌*◌, ◌≤◌, ◌<◌, List, [], ◌∷◌, ◌++◌, length, slice_index, Some, None, Result, Ok, Err}
 use Rattle.seq_model.specs.declared.mesh.Facet.{Facet}
 use Rattle.stl_text.specs.declared.Stl.{Stl}
 use Rattle.stl_text.specs.declared.Stl.TheVariants.{Binary, NoFacet}

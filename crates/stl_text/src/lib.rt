@@ -16,7 +16,7 @@ mod words;
 
 use decimal_lengths::Decimal;
 pub use facets::text_of;
-pub use mesh::read_mesh;
+pub use mesh::{one_answer, read_mesh};
 
 /// A word that the grammar asks for.
 #[derive(Clone, Copy, Debug, PartialEq, Eq)]

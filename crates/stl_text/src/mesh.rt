@@ -1,7 +1,9 @@
 //! Reads a mesh.
 
-ghost use Rattle.std.specs.Prelude.{◌≡◌, ◌≤◌, ◌<◌, ◌+◌, ◌↔◌, ◌⊎◌, length, IfOk, IfErr, IsTrue, Ok, Err, All};
+ghost use Rattle.std.specs.Prelude.{◌≡◌, ◌≤◌, ◌<◌, ◌+◌, ◌↔◌, ◌⊎◌, length, IfOk, IfErr, IsTrue, Ok, Err, All, List, ℕ};
 ghost use Rattle.seq_model.specs.Bounds.{IsNearFacet};
+ghost use Rattle.seq_model.specs.declared.mesh.Facet.{Facet};
+ghost use Rattle.stl_text.specs.declared.Stl.{Stl};
 ghost use Rattle.stl_text.specs.Meshes.{IsBinary, MeshOf, IsRefused, body, nothing, count};
 ghost use Rattle.stl_text.specs.Reading.{Reads};
 
@@ -66,3 +68,10 @@ pub fn read_mesh(alloc: Global, bytes: &[u8]) -> Result<Mesh, Stl>
         dropped: found.dropped,
     })
 }
+
+/// No bytes are two meshes, or refused for two causes, or a mesh and refused.
+pub fn one_answer()
+    ensures mesh { (bytes : List ℕ) (fs gs : List Facet) (d e : ℕ) → MeshOf bytes fs d → MeshOf bytes gs e → (fs ≡ gs) × (d ≡ e) }
+    ensures refusal { (bytes : List ℕ) (why other : Stl) → IsRefused bytes why → IsRefused bytes other → why ≡ other }
+    ensures not_both { (bytes : List ℕ) (why : Stl) (fs : List Facet) (d : ℕ) → IsRefused bytes why → MeshOf bytes fs d → ⊥ }
+{}

@@ -1,7 +1,5 @@
-use Rattle.std.proofs.Common.{rules}
 use Rattle.std.proofs.lemmas.Result.{err_from_is_err_and}
-use Rattle.stl_text.proofs.Places.{next_reads, rest_reads}
-use Rattle.stl_text.proofs.Pieces.{gives_reads, refuses_reads, passes_reads, stops_reads, yes_reads, no_reads, length_reads, no_length_reads}
+use Rattle.stl_text.proofs.Pieces.{gives_reads, passes_reads, stops_reads}
 use Rattle.stl_text.proofs.facets.facet.Goals as goal
 
 pub returns-in_err-at-clause-reads : goal.returns-in_err-at-clause-reads

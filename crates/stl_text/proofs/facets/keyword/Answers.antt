@@ -1,7 +1,6 @@
-use Rattle.std.proofs.Common.{◌≡◌, ◌<◌, ◌≤◌, Ok, Err, refl, sym, rules, arith}
-use Rattle.stl_text.specs.Reading.{Reads}
-use Rattle.stl_text.proofs.Places.{next_reads, rest_reads}
-use Rattle.stl_text.proofs.Pieces.{gives_reads, refuses_reads, passes_reads, stops_reads, yes_reads, no_reads, length_reads, no_length_reads}
+use Rattle.std.proofs.Common.{rules}
+use Rattle.stl_text.proofs.Places.{next_reads}
+use Rattle.stl_text.proofs.Pieces.{gives_reads, refuses_reads, passes_reads, yes_reads, no_reads}
 use Rattle.stl_text.proofs.facets.keyword.Goals as goal
 
 pub returns-then-is_spelled-clause-reads : goal.returns-then-is_spelled-clause-reads

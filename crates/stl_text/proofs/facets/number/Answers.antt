@@ -1,11 +1,10 @@
 use Rattle.std.proofs.Common.{rules}
-use Rattle.std.proofs.lemmas.Result.{err_from_is_err_and}
 use Rattle.std.proofs.lemmas.Int.{to_z-of_z}
 use Rattle.std.specs.Int.{w64}
 use Rattle.std.specs.Prelude.{FitsSigned}
 use Rattle.stl_text.specs.Words.{letters}
-use Rattle.stl_text.proofs.Places.{next_reads, rest_reads}
-use Rattle.stl_text.proofs.Pieces.{gives_reads, refuses_reads, passes_reads, stops_reads, yes_reads, no_reads, length_reads, no_length_reads}
+use Rattle.stl_text.proofs.Places.{next_reads}
+use Rattle.stl_text.proofs.Pieces.{gives_reads, passes_reads, stops_reads, length_reads, no_length_reads}
 use Rattle.stl_text.proofs.facets.number.Goals as goal
 
 pub returns-in-Ok-clause-reads : goal.returns-in-Ok-clause-reads

@@ -1,4 +1,4 @@
-use Rattle.std.proofs.Common.{◌∙◌, sym, inr, rules, arith}
+use Rattle.std.proofs.Common.{◌∙◌, sym, inr, rules}
 use Rattle.std.proofs.lemmas.Result.{err_from_is_err_and}
 use Rattle.stl_text.proofs.Pieces.{stops_reads, no_reads}
 use Rattle.stl_text.proofs.Bodies.{file_refused, file_empty, file_read}
