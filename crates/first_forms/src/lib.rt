@@ -2,7 +2,7 @@
 //!
 //! `read_description` reads the six lines of a printer without listed parts, and `read_mesh` the plain text of
 //! a mesh, both with lengths in whole millimetres. Each answers a printer or a mesh exactly where the bytes are
-//! of that form and within its ranges, and `NotYet` exactly where they aren't.
+//! of that form and within its ranges, and `NotYet` exactly where they aren't; want of memory may come in place of either.
 //!
 //! It stands between the bytes of the files and the top call until the whole description and the whole mesh
 //! grammar are read; then it goes away.

@@ -19,7 +19,7 @@ xs facets = map (λ (p : Point3). p.x) (vertices facets)
 abbrev pub ys : List Facet → List ℤ
 ys facets = map (λ (p : Point3). p.y) (vertices facets)
 
--- as far from the origin as a spot can be: 10 m at the least grain, and the greatest margin
+-- a coarse bound: 10 m twice, in µm, and the greatest margin. In grains of at least 10 µm spots are far nearer
 pub record IsNearSpot (s : Spot) : Type 0 where
   pub x : unsigned_abs s.x ≤ 20_001_000
   pub y : unsigned_abs s.y ≤ 20_001_000

@@ -4,7 +4,7 @@
 //! memory, whose contents contracts can name, one that never fails, and one over the system's files and streams,
 //! of which nothing is told but how often a call failed. `read_all` gives the bytes of a file, or says why not;
 //! `write_all` writes all bytes, or a proper part of them. A failure is answered only where the device's count of
-//! faults rose in the call, so nothing above can make one up, and none is passed over in silence.
+//! faults rose in the call, so nothing above can make one up. (That each failure is answered is tested, not proved.)
 //!
 //! It stands above `seq_num` and below the top call, which takes its shelf and its sinks as type parameters.
 #![tactic(auto)]

@@ -59,7 +59,7 @@ pub trait Shelf {
 
 /// The bytes of the first file of that name, if they are at most `limit`.
 ///
-/// No more than `limit + 1` bytes are ever held, by as many reads at most: each but the last gives a byte.
+/// It stops at the first byte past the limit: each read but the last gives a byte.
 pub fn read_all<S: Shelf>(
     alloc: Global,
     shelf: &mut S,

@@ -2,7 +2,7 @@
 --
 --   Description                what a printer description states
 --   Scene                      the objects by their spots in each band, the parts, and the plate
---   description_of p parts     the description with the numbers of a printer and these listed parts
+--   description_of p parts     the description with the numbers of a printer and these parts, the tip among them
 --   scene_of_files d meshes    the scene of a description and the facets of the meshes
 --   Spans s o low high         low and high are the least and greatest spot coordinates of object o, over all its bands
 --   Collides s i p j r         object i at p, printed earlier, collides with object j at r
@@ -23,7 +23,8 @@ use Rattle.seq_model.specs.Outlines.{spots, Inner}
 use Rattle.seq_model.specs.Plates.{region_of}
 use Rattle.seq_model.specs.Points.{Point, IsPoint, SamePoint, plus, minus, place_point}
 
--- what a printer description states: lengths in µm (grain, step) and in grains, and the parts with their listed corners
+-- what a printer description states: lengths in µm (grain, step) and in grains, and the parts: the tip first, then the listed
+-- ones with their corners as they are listed
 pub record Description : Type 0 where
   pub grain : ℤ
   pub width : ℤ
@@ -33,7 +34,7 @@ pub record Description : Type 0 where
   pub grid : ℕ
   pub parts : List Part
 
--- the description with the numbers of a printer and these listed parts. A printer keeps only the hulls of its parts
+-- the description with the numbers of a printer and these parts, the tip first. A printer keeps only the hulls of its parts
 abbrev pub description_of : Printer → List Part → Description
 description_of printer parts = record {
   grain = printer.grain;

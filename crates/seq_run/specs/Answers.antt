@@ -1,5 +1,6 @@
 -- What `arrange` answers, over the bytes of the two files.
 --
+--   found grid plan              the file of a plan that was found, on the whole plate
 --   PrintsPlan d facets text     the text is that of a plan that is valid on the whole plate
 --   Fits d facets                the object's span is at most the plate's size
 --   IsArrangeable d facets       it has at most 200 bands, and fits
@@ -12,6 +13,9 @@ use Rattle.std.specs.Prelude.{◌≡◌, ℕ, zero, suc, ◌≤◌, ◌^◌, ◌
 use Rattle.first_forms.specs.Descriptions.{PrinterOf}
 use Rattle.first_forms.specs.Meshes.{MeshOf}
 use Rattle.lone_object.specs.Lone.{FitsPlate, zero_place, lone_plan}
+use Rattle.plan_text.specs.PlanText.{plan_text}
+use Rattle.plan_text.specs.declared.file.PlanFile.{PlanFile}
+use Rattle.plan_text.specs.declared.file.State.TheVariants.{Found}
 use Rattle.seq_io.specs.Files.{bytes_of}
 use Rattle.seq_io.specs.declared.mem_file.MemFile.{MemFile}
 use Rattle.seq_model.specs.Bands.{band_count}
@@ -19,7 +23,6 @@ use Rattle.seq_model.specs.Scenes.{Description, Scene, Spans, Valid, scene_of_fi
 use Rattle.seq_model.specs.declared.mesh.Facet.{Facet}
 use Rattle.seq_model.specs.declared.plan.Plan.{Plan}
 use Rattle.seq_model.specs.declared.printer.Spot.{Spot}
-use Rattle.seq_run.specs.PlanText.{plan_text}
 use Rattle.seq_run.specs.Words.{Asked, asked}
 use Rattle.seq_run.specs.declared.words.WordsRefusal.{WordsRefusal}
 
@@ -30,10 +33,14 @@ pub record IsZeroPlan (scene : Scene) (plan : Plan) : Type 0 where
   pub spans : Spans scene 0 low high
   pub is : plan ≡ lone_plan (zero_place low)
 
+-- the file that says that this plan was found, on the whole plate
+abbrev pub found : ℕ → Plan → PlanFile
+found grid plan = record { state = Found; grid = grid; extent = grid; plan = plan }
+
 pub record PrintsPlan (d : Description) (facets : List Facet) (text : List ℕ) : Type 0 where
   pub plan : Plan
   pub valid : Valid (scene_of_files d (facets ∷ [])) d.grid plan
-  pub is : text ≡ plan_text d.grid plan
+  pub is : text ≡ plan_text (found d.grid plan)
   pub zero_point : IsZeroPlan (scene_of_files d (facets ∷ [])) plan
 
 pub record Fits (d : Description) (facets : List Facet) : Type 0 where

@@ -1,12 +1,15 @@
-ghost use Rattle.std.specs.Prelude.{◌≡◌, ◌<◌, string_bytes, length, IfOk, IsErrOf};
+ghost use Rattle.std.specs.Prelude.{◌≡◌, ◌≤◌, ◌<◌, length, IfOk, IsErrOf};
 ghost use Rattle.seq_model.specs.Scenes.{description_of};
-ghost use Rattle.seq_run.specs.Answers.{IsArrangeable, PrintsPlan};
-ghost use Rattle.seq_run.specs.PlanText.{head_text, scale_text, place_text, plan_text};
+ghost use Rattle.seq_run.specs.Answers.{IsArrangeable, PrintsPlan, found};
+ghost use Rattle.plan_text.specs.PlanText.{IsPlace, plan_text};
 ghost use Rattle.lone_object.specs.Lone.{lone_plan};
 
 use lone_object::{lone_place_is_valid, measure_object, place_alone};
-use seq_model::{Mesh, Place, Printer};
-use std::alloc::{AllocError, Global};
+use owned_lists::Items;
+use plan_text::{PlanFile, State, write_plan};
+use seq_model::{Mesh, Place, Plan, Printer};
+use seq_num::NoMemory;
+use std::alloc::Global;
 
 /// Why no plan is made: the object has too many bands or doesn't fit, or memory is wanting.
 #[derive(Clone, Copy, PartialEq, Eq, Debug)]
@@ -15,36 +18,28 @@ pub enum Unplanned {
     NoMemory,
 }
 
-fn head(alloc: Global, grid: u32) -> Result<String, AllocError>
-    ensures { IfOk result (λ text. string_bytes text ≡ head_text grid) }
+// The plan of one place, at scale 1.
+fn alone(alloc: Global, place: Place) -> Result<Plan, NoMemory>
+    ensures { IfOk result (λ plan. plan ≡ lone_plan place) }
 {
-    format!(in alloc; "seqplan 1\nstate found\ngrid {grid}\nextent {grid}\n")
+    let mut places = Items::new(alloc);
+    places.push(place)?;
+    Ok(Plan { scale: 1, places })
 }
 
-fn place_line(alloc: Global, place: &Place) -> Result<String, AllocError>
-    ensures { IfOk result (λ text. string_bytes text ≡ place_text place.now) }
+// The text that says that the plan was found on the whole plate.
+fn found_text(alloc: Global, grid: u32, place: Place) -> Result<Vec<u8>, NoMemory>
+    requires grid { (1 ≤ grid) × (grid ≤ 1_000) }
+    requires place { IsPlace place }
+    ensures { IfOk result (λ text. text.items ≡ plan_text (found grid (lone_plan place))) }
 {
-    let Place { object, x, y } = *place;
-    format!(in alloc; "place {object} {x} {y}\n")
-}
-
-fn scale_line(alloc: Global, scale: i128) -> Result<String, AllocError>
-    ensures { IfOk result (λ text. string_bytes text ≡ scale_text scale) }
-{
-    format!(in alloc; "scale {scale}\n")
-}
-
-// The whole text of the plan of one place, at scale 1.
-fn plan_text(alloc: Global, grid: u32, place: &Place) -> Result<Vec<u8>, AllocError>
-    ensures { IfOk result (λ text. text.items ≡ plan_text grid (lone_plan place.now)) }
-{
-    let head = head(alloc, grid)?;
-    let scale = scale_line(alloc, 1)?;
-    let place = place_line(alloc, place)?;
-    let mut text = Vec::from_slice(alloc, head.as_bytes())?;
-    text.extend_from_slice(scale.as_bytes())?;
-    text.extend_from_slice(place.as_bytes())?;
-    Ok(text)
+    let file = PlanFile {
+        state: State::Found,
+        grid,
+        extent: grid,
+        plan: alone(alloc, place)?,
+    };
+    write_plan(alloc, &file)
 }
 
 /// The text of the plan of one object, at the plate's low corner.
@@ -61,8 +56,9 @@ pub fn arrange(alloc: Global, printer: &Printer, mesh: &Mesh) -> Result<Vec<u8>,
     let Some(place) = place_alone(printer, &measure) else {
         return Err(Unplanned::NotYet);
     };
+    // a law: this place is a valid plan
     lone_place_is_valid();
-    match plan_text(alloc, printer.grid, &place) {
+    match found_text(alloc, printer.grid, place) {
         Ok(text) => Ok(text),
         Err(_) => Err(Unplanned::NoMemory),
     }

@@ -15,7 +15,7 @@ use crate::planning::{Unplanned, arrange};
 use crate::reading::read_file;
 use crate::words::{Names, read_words};
 use crate::{Cause, NamedFile, Stop};
-use first_forms::{Unread, one_mesh, read_description, read_mesh};
+use first_forms::{Unread, one_description, one_mesh, read_description, read_mesh};
 use seq_io::{Shelf, Sink, write_all};
 use std::alloc::Global;
 
@@ -48,6 +48,8 @@ fn arrange_named<S: Shelf>(alloc: Global, names: &Names<'_>, shelf: &mut S) -> R
         Ok(mesh) => mesh,
         Err(cause) => return Err(refused(NamedFile::Mesh, cause)),
     };
+    // laws: that no other description and no other mesh could be meant
+    one_description();
     one_mesh();
     match arrange(alloc, &printer, &mesh) {
         Ok(text) => Ok(text),

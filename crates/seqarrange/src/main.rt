@@ -6,13 +6,16 @@
 use seq_io::{DirShelf, StdSink};
 use seq_run::run;
 use std::env;
+use std::io::ErrorKind;
 use std::process::ExitCode;
 
 /// Ends with the status of the run; with 2 where a word isn't text, with 9 where the words find no memory.
 fn main(rt: HostRuntime) -> ExitCode {
     let alloc = rt.alloc();
-    let Ok(args) = env::args(&rt) else {
-        return ExitCode::from(2);
+    let args = match env::args(&rt) {
+        Ok(args) => args,
+        Err(error) if error.kind() == ErrorKind::OutOfMemory => return ExitCode::from(9),
+        Err(_) => return ExitCode::from(2),
     };
     let mut words = Vec::new(alloc);
     for word in args.skip(1) {

@@ -1,4 +1,4 @@
-use crate::meshes::block;
+use crate::meshes::{block, blocks};
 use seq_io::{MemFile, MemShelf, MemSink};
 use seq_run::run;
 use std::alloc::Global;
@@ -9,6 +9,13 @@ const PLATE: &[u8] =
 
 const SMALL_PLATE: &[u8] =
     b"format = 1\ngrain = 1\nplate = [20, 20]\nstep = 10\nmargin = 1\ngrid = 100\n";
+
+const PARTS: &[u8] =
+    b"format = 1\ngrain = 1\nplate = [100, 100]\nstep = 10\nmargin = 1\ngrid = 100\n\n[[part]]\nname = \"nozzle\"\nfrom = 0\ncorners = [[-2, -2], [2, -2], [2, 2], [-2, 2]]\n";
+
+// a whole mesh, but for one number that isn't whole
+const HALF: &[u8] =
+    b"solid c\nfacet normal 0 0 0\nouter loop\nvertex 0 0 1.5\nvertex 20 0 0\nvertex 0 20 20\nendloop\nendfacet\nendsolid c\n";
 
 const PLAN: &[u8] = b"seqplan 1\nstate found\ngrid 100\nextent 100\nscale 1\nplace 0 1 1\n";
 
@@ -57,6 +64,35 @@ fn a_cube_stands_at_the_low_corner_of_its_plate(rt: HostRuntime) -> Result<(), F
     Ok(())
 }
 
+// Large files are no want of memory.
+#[test]
+fn large_files_are_read_or_too_long(rt: HostRuntime) -> Result<(), Fail> {
+    let alloc = rt.alloc();
+    let words = ["arrange", "p0.toml", "cube.stl"];
+    let done = run_in_memory(
+        alloc,
+        PLATE,
+        blocks(alloc, 200, 20, 20, 20)?,
+        &words,
+        &[],
+        &[],
+    )?;
+    assert_eq!(rt; done.status, 0);
+    assert_eq!(rt; done.out.taken(), PLAN);
+    // a description of 1 MiB and a byte
+    let mut long = Vec::new(alloc);
+    for _ in 0..1_048_577 {
+        long.push(b'#')?;
+    }
+    let done = run_in_memory(alloc, &long, block(alloc, 20, 20, 20)?, &words, &[], &[])?;
+    assert_eq!(rt; done.status, 4);
+    assert_eq!(rt;
+        done.err.taken(),
+        b"input: p0.toml: longer than 1048576 bytes\n".as_slice()
+    );
+    Ok(())
+}
+
 #[test]
 fn what_can_not_be_arranged_is_told_in_one_line(rt: HostRuntime) -> Result<(), Fail> {
     let alloc = rt.alloc();
@@ -66,13 +102,7 @@ fn what_can_not_be_arranged_is_told_in_one_line(rt: HostRuntime) -> Result<(), F
     let cases = [
         (SMALL_PLATE, block(alloc, 20, 20, 20)?),
         (PLATE, block(alloc, 20, 20, 2_010)?),
-        (
-            PLATE,
-            Vec::from_slice(
-                alloc,
-                b"solid c\nfacet normal 0 0 0\nouter loop\nvertex 0 0 1.5\n",
-            )?,
-        ),
+        (PLATE, Vec::from_slice(alloc, HALF)?),
     ];
     for (printer, mesh) in cases {
         let done = run_in_memory(alloc, printer, mesh, &words, &[], &[])?;
@@ -81,14 +111,7 @@ fn what_can_not_be_arranged_is_told_in_one_line(rt: HostRuntime) -> Result<(), F
         assert_eq!(rt; done.out.taken(), b"".as_slice());
     }
     // with parts the description is of another form
-    let done = run_in_memory(
-        alloc,
-        b"format = 1\n",
-        block(alloc, 20, 20, 20)?,
-        &words,
-        &[],
-        &[],
-    )?;
+    let done = run_in_memory(alloc, PARTS, block(alloc, 20, 20, 20)?, &words, &[], &[])?;
     assert_eq!(rt; done.status, 4);
     assert_eq!(rt; done.err.taken(), b"input: p0.toml: not yet\n".as_slice());
     Ok(())
