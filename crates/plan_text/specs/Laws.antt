@@ -1,13 +1,16 @@
--- The laws of a line of a keyword and a number, both ways.
+-- The laws of a line of a keyword and a number, both ways, and of a plan at scale 1.
 --
 --   number_line_takes   what `number_line_at` takes is the line of its number, which is in the range
 --   number_line_again   the line of a number in the range is taken as this number
+--   unscaled            a plan at scale 1 has no common divisor
 use Rattle.std.proofs.Common.{◌≡◌, ℕ, ◌≤◌, ◌<◌, ◌^◌, ℤ, pos, negsuc, List, ◌++◌, Bool, true, false, cond, ◌||◌, int_lt, Option, Some, None, codes, unsigned_abs, refl, sym, ap, ◌∙◌, arith, append_assoc}
 use Rattle.std.proofs.lemmas.Bool.Decides.{nat_tests}
 use Rattle.seq_num.specs.Spelling.{spelling}
 use Rattle.seq_num.specs.Reading.{literal_at, whole_at}
 use Rattle.seq_num.specs.Laws.Reading.{step_some, literal_takes, literal_again, whole_takes, whole_again}
-use Rattle.plan_text.specs.PlanText.{number_line}
+use Rattle.std.proofs.Math.Nat.{eq-one_of_dvd-one}
+use Rattle.seq_model.specs.declared.plan.Place.{Place}
+use Rattle.plan_text.specs.PlanText.{number_line, HasNoDivisor}
 use Rattle.plan_text.specs.Lines.{number_line_at}
 
 pub record TakesNumber (keyword : List ℕ) (most : ℕ) (bytes rest : List ℕ) (n : ℕ) : Type 0 where
@@ -52,3 +55,6 @@ number_line_again keyword most n rest low high small =
     let below : int_lt (pos n) (pos 1) ≡ false = grind (arith, nat_tests) in
     let above : int_lt (pos most) (pos n) ≡ false = grind (arith, nat_tests) in
     rw (regroup keyword (spelling (pos n)) (codes "\n") rest) (rw (literal_again, whole_again (pos n) (codes "\n" ++ rest) (omega arith) refl, literal_again, below, above) refl)
+
+pub unscaled : (places : List Place) → HasNoDivisor (record { scale = pos 1; places = places })
+unscaled places = record { one = λ d divides all. eq-one_of_dvd-one divides }

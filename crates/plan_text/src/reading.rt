@@ -13,16 +13,21 @@ use owned_lists::Items;
 use seq_model::{Place, Plan, What};
 use seq_num::{gcd, literal};
 use std::alloc::Global;
+use thiserror::Error;
 
 /// Why bytes are no plan file.
-#[derive(Clone, Copy, Debug, PartialEq, Eq)]
+#[derive(Clone, Copy, Debug, PartialEq, Eq, Error)]
 pub enum PlanRead {
     /// The line of this number, counted from 1, is ended and isn't of the due form.
+    #[error("plan line {0}: {1:?}")]
     Line(u64, What),
     /// The bytes end before a due line, within one, or within a line after the places where no tree block is due.
+    #[error("plan ends early")]
     Missing,
     /// An ended line follows the places where no tree block is due.
+    #[error("bytes after the plan")]
     Trailing,
+    #[error("memory")]
     NoMemory,
 }
 

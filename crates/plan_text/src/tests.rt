@@ -1,0 +1,231 @@
+use super::PlanRead::{Line, Missing, Trailing};
+use super::*;
+use seq_model::Place;
+use seq_model::What::{Extent, Grid, Header, Place as PlaceLine, Scale, State as StateLine};
+use std::test::Fail;
+
+// six lines, of 10, 12, 9, 11, 8 and 12 bytes
+static FOUND: &[u8] = b"seqplan 1\nstate found\ngrid 100\nextent 100\nscale 1\nplace 0 1 1\n";
+
+#[test]
+fn a_plan_is_read_and_written_again(rt: HostRuntime) -> Result<(), Fail> {
+    let alloc = rt.alloc();
+    let (file, place) = read_plan(alloc, FOUND)?;
+    assert_eq!(rt; place, 62);
+    assert_eq!(rt; file.state, State::Found);
+    assert_eq!(rt; (file.grid, file.extent), (100, 100));
+    assert_eq!(rt; file.plan.scale, 1);
+    let places = [Place {
+        object: 0,
+        x: 1,
+        y: 1,
+    }];
+    assert_eq!(rt; file.plan.places.as_slice(), places.as_slice());
+    let text = write_plan(alloc, &file)?;
+    assert_eq!(rt; text.as_slice(), FOUND);
+    Ok(())
+}
+
+#[test]
+fn no_prefix_is_a_plan_but_one(rt: HostRuntime) {
+    for (len, _) in FOUND.iter().enumerate() {
+        let refusal = read_plan(rt.alloc(), &FOUND[..len]).err();
+        assert_eq!(rt; refusal, if len == 50 { None } else { Some(Missing) });
+    }
+}
+
+// plans, and the place where their lines end
+static READ: [(&[u8], usize); 8] = [
+    (b"seqplan 1\nstate none\ngrid 1\n", 28),
+    (b"seqplan 1\nstate none\ngrid 1\nplace 0 1 1", 28),
+    (b"seqplan 1\nstate undecided budget\ngrid 1000\n\xff\n", 43),
+    (b"seqplan 1\nstate undecided wide\ngrid 7\n", 38),
+    (
+        b"seqplan 1\nstate least\ngrid 2\nextent 2\nscale 3\nplace 4294967295 -1 1237940039285380274899124223\nplaces\n",
+        95,
+    ),
+    (b"seqplan 1\nstate least\ngrid 2\nextent 1\nscale 1\n", 46),
+    (
+        b"seqplan 1\nstate open wide\ngrid 2\nextent 1\nscale 1\nplace",
+        50,
+    ),
+    (
+        b"seqplan 1\nstate open budget\ngrid 9\nextent 9\nscale 4611686018427387903\nplace 7 0 1\n",
+        82,
+    ),
+];
+
+static REFUSED: [(&[u8], PlanRead); 54] = [
+    // the first line
+    (b"", Missing),
+    (b"seqplan 1", Missing),
+    (b"seqplan 2", Missing),
+    (b"\n", Line(1, Header)),
+    (b"seqplan 2\n", Line(1, Header)),
+    (b"Seqplan 1\n", Line(1, Header)),
+    (b"seqplan 1\r\n", Line(1, Header)),
+    (b"seqplan 1 \n", Line(1, Header)),
+    (b" seqplan 1\n", Line(1, Header)),
+    // the state
+    (b"seqplan 1\n", Missing),
+    (b"seqplan 1\nstate found", Missing),
+    (b"seqplan 1\n\n", Line(2, StateLine)),
+    (b"seqplan 1\nstate lost\n", Line(2, StateLine)),
+    (b"seqplan 1\nstate open\n", Line(2, StateLine)),
+    (b"seqplan 1\nstate found \n", Line(2, StateLine)),
+    (b"seqplan 1\ngrid 1\n", Line(2, StateLine)),
+    // the grid
+    (b"seqplan 1\nstate none\n", Missing),
+    (b"seqplan 1\nstate none\ngrid 100", Missing),
+    (b"seqplan 1\nstate none\ngrid\n", Line(3, Grid)),
+    (b"seqplan 1\nstate none\ngrid 0\n", Line(3, Grid)),
+    (b"seqplan 1\nstate none\ngrid 1001\n", Line(3, Grid)),
+    (b"seqplan 1\nstate none\ngrid 01\n", Line(3, Grid)),
+    (b"seqplan 1\nstate none\ngrid +1\n", Line(3, Grid)),
+    (b"seqplan 1\nstate none\ngrid -1\n", Line(3, Grid)),
+    (
+        b"seqplan 1\nstate none\ngrid 1267650600228229401496703205376\n",
+        Line(3, Grid),
+    ),
+    // the extent, at most the grid
+    (
+        b"seqplan 1\nstate least\ngrid 9\nscale 1\n",
+        Line(4, Extent),
+    ),
+    (
+        b"seqplan 1\nstate least\ngrid 9\nextent 0\n",
+        Line(4, Extent),
+    ),
+    (
+        b"seqplan 1\nstate least\ngrid 9\nextent 10\n",
+        Line(4, Extent),
+    ),
+    (
+        b"seqplan 1\nstate least\ngrid 9\nextent 1 2\n",
+        Line(4, Extent),
+    ),
+    // the scale, below 2^62, and the common divisor
+    (
+        b"seqplan 1\nstate found\ngrid 9\nextent 9\nplace 0 1 1\n",
+        Line(5, Scale),
+    ),
+    (
+        b"seqplan 1\nstate found\ngrid 9\nextent 9\nscale 0\n",
+        Line(5, Scale),
+    ),
+    (
+        b"seqplan 1\nstate found\ngrid 9\nextent 9\nscale -1\n",
+        Line(5, Scale),
+    ),
+    (
+        b"seqplan 1\nstate found\ngrid 9\nextent 9\nscale 4611686018427387904\n",
+        Line(5, Scale),
+    ),
+    (
+        b"seqplan 1\nstate found\ngrid 9\nextent 9\nscale 2\n",
+        Line(5, Scale),
+    ),
+    (
+        b"seqplan 1\nstate found\ngrid 9\nextent 9\nscale 6\nplace 0 -9 0\nplace 1 3 3\n",
+        Line(5, Scale),
+    ),
+    (
+        b"seqplan 1\nstate found\ngrid 9\nextent 9\nscale 2\nplace 0 2 4\nmore\n",
+        Line(5, Scale),
+    ),
+    (
+        b"seqplan 1\nstate found\ngrid 9\nextent 9\nscale 2\nplace 0 2 4\nmore",
+        Line(5, Scale),
+    ),
+    (
+        b"seqplan 1\nstate open wide\ngrid 9\nextent 9\nscale 2\nplace 0 2 4\nmore",
+        Line(5, Scale),
+    ),
+    (
+        b"seqplan 1\nstate found\ngrid 9\nextent 9\nscale 2\nplace 0 2 4\nplace 1",
+        Missing,
+    ),
+    // place lines
+    (
+        b"seqplan 1\nstate found\ngrid 9\nextent 9\nscale 1\nplace \n",
+        Line(6, PlaceLine),
+    ),
+    (
+        b"seqplan 1\nstate found\ngrid 9\nextent 9\nscale 1\nplace 0 1\n",
+        Line(6, PlaceLine),
+    ),
+    (
+        b"seqplan 1\nstate found\ngrid 9\nextent 9\nscale 1\nplace 0 1 1 \n",
+        Line(6, PlaceLine),
+    ),
+    (
+        b"seqplan 1\nstate found\ngrid 9\nextent 9\nscale 1\nplace  0 1 1\n",
+        Line(6, PlaceLine),
+    ),
+    (
+        b"seqplan 1\nstate found\ngrid 9\nextent 9\nscale 1\nplace 0 1.5 1\n",
+        Line(6, PlaceLine),
+    ),
+    (
+        b"seqplan 1\nstate found\ngrid 9\nextent 9\nscale 1\nplace -1 1 1\n",
+        Line(6, PlaceLine),
+    ),
+    (
+        b"seqplan 1\nstate found\ngrid 9\nextent 9\nscale 1\nplace 4294967296 1 1\n",
+        Line(6, PlaceLine),
+    ),
+    (
+        b"seqplan 1\nstate found\ngrid 9\nextent 9\nscale 1\nplace 0 1237940039285380274899124224 1\n",
+        Line(6, PlaceLine),
+    ),
+    (
+        b"seqplan 1\nstate found\ngrid 9\nextent 9\nscale 1\nplace 0 1 -1237940039285380274899124224\n",
+        Line(6, PlaceLine),
+    ),
+    (
+        b"seqplan 1\nstate open wide\ngrid 9\nextent 9\nscale 1\nplace 0 1 1\nplace 1 x 1\n",
+        Line(7, PlaceLine),
+    ),
+    // behind the lines, where no tree block is due
+    (
+        b"seqplan 1\nstate found\ngrid 9\nextent 9\nscale 1\nplace 0 1 1\n\n",
+        Trailing,
+    ),
+    (
+        b"seqplan 1\nstate found\ngrid 9\nextent 9\nscale 1\nplaces\n",
+        Trailing,
+    ),
+    (
+        b"seqplan 1\nstate found\ngrid 9\nextent 9\nscale 1\ncertificate 1\nx",
+        Trailing,
+    ),
+    (
+        b"seqplan 1\nstate least\ngrid 9\nextent 1\nscale 1\ncertificate 1\n",
+        Trailing,
+    ),
+    (
+        b"seqplan 1\nstate least\ngrid 9\nextent 1\nscale 1\ncertificate 1",
+        Missing,
+    ),
+];
+
+#[test]
+fn plans_are_read_or_refused(rt: HostRuntime) -> Result<(), Fail> {
+    let alloc = rt.alloc();
+    for (text, place) in READ {
+        assert_eq!(rt; read_plan(alloc, text)?.1, place);
+    }
+    for (text, refusal) in REFUSED {
+        assert_eq!(rt; read_plan(alloc, text).err(), Some(refusal));
+    }
+    let mut text = FOUND[..50].to_vec(alloc)?;
+    for _ in 0..16 {
+        text.extend_from_slice(b"place 0 0 0\n")?;
+    }
+    assert_eq!(rt; read_plan(alloc, &text)?.1, 242);
+    text.extend_from_slice(b"place 0 0 0")?;
+    assert_eq!(rt; read_plan(alloc, &text).err(), Some(Missing));
+    text.extend_from_slice(b"\n")?;
+    assert_eq!(rt; read_plan(alloc, &text).err(), Some(Line(22, PlaceLine)));
+    Ok(())
+}
