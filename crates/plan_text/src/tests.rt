@@ -55,7 +55,7 @@ static READ: [(&[u8], usize); 8] = [
     ),
 ];
 
-static REFUSED: [(&[u8], PlanRead); 54] = [
+static REFUSED: [(&[u8], PlanRead); 56] = [
     // the first line
     (b"", Missing),
     (b"seqplan 1", Missing),
@@ -148,6 +148,14 @@ static REFUSED: [(&[u8], PlanRead); 54] = [
     // place lines
     (
         b"seqplan 1\nstate found\ngrid 9\nextent 9\nscale 1\nplace \n",
+        Line(6, PlaceLine),
+    ),
+    (
+        b"seqplan 1\nstate found\ngrid 9\nextent 9\nscale 1\nplace 0 -0 1\n",
+        Line(6, PlaceLine),
+    ),
+    (
+        b"seqplan 1\nstate found\ngrid 9\nextent 9\nscale 1\nplace 0 1267650600228229401496703205376 1\n",
         Line(6, PlaceLine),
     ),
     (

@@ -2,13 +2,15 @@
 --
 --   Values, IsOn job e path at      a point u / d, and that it is a point of the path: it meets the system there
 --   CollidesAt job e at i j         object i, as the earlier, collides there with object j
---   TouchesAt job e at contact      the contact collides there, by the bands of its zones and its part
+--   ContactCollidesAt job e at contact   it is a contact, and collides there, by the bands of its zones and its part
 --   IsForced job e at a b           a before b is forced there: the pair collides one way only, and not this way
 --   Earned job e path node          a split that a search may make
 --   Grounded job e path node        a split that a certificate may hold
 --   OpenTree job e nodes            a tree whose splits are earned and whose closed leaves are sound, with a pending leaf
---   SpentTree job e budget s nodes  an open tree that has used the budget up, and could go on
+--   SpentTree job e budget nodes    an open tree that has used the budget up, and could go on
 use Rattle.std.specs.Prelude.{◌≡◌, ℕ, ◌+◌, ◌*◌, ◌<◌, ◌≤◌, List, [], ◌∷◌, Contains, length, take, slice_get, Some, ◌⊎◌, ℤ}
+use Rattle.seq_model.specs.Budgets.{IsMostSides}
+use Rattle.seq_model.specs.Contacts.{IsContact}
 use Rattle.seq_model.specs.Jobs.{zone_at, part_at, scene_of_job}
 use Rattle.seq_model.specs.Scenes.{Overlap, Collides}
 use Rattle.seq_model.specs.Systems.{system, Meets, place_of}
@@ -38,9 +40,9 @@ pub record Somewhere (job : Job) (e : ℕ) (path : List Choice) (Here : Values �
 abbrev pub CollidesAt : Job → ℕ → Values → ℕ → ℕ → Type 0
 CollidesAt job e at i j = Collides (scene_of_job job) i (place_of job e at.d at.u i) j (place_of job e at.d at.u j)
 
-abbrev pub TouchesAt : Job → ℕ → Values → Contact → Type 0
-TouchesAt job e at c =
-    Overlap (zone_at job c.i c.zi).corners (zone_at job c.j c.zj).corners (part_at job c.part).corners (place_of job e at.d at.u c.i) (place_of job e at.d at.u c.j)
+abbrev pub ContactCollidesAt : Job → ℕ → Values → Contact → Type 0
+ContactCollidesAt job e at c =
+    IsContact job c × Overlap (zone_at job c.i c.zi).corners (zone_at job c.j c.zj).corners (part_at job c.part).corners (place_of job e at.d at.u c.i) (place_of job e at.d at.u c.j)
 
 abbrev pub IsForced : Job → ℕ → Values → ℕ → ℕ → Type 0
 IsForced job e at a b = CollidesAt job e at b a × (CollidesAt job e at a b → ⊥)
@@ -58,7 +60,7 @@ abbrev pub AreNeighbours : Job → ℕ → List Choice → Values → ℕ → �
 AreNeighbours job e path at a b = (others : List ℕ) × IsCycle (Precedes job e path at) (a ∷ b ∷ others)
 
 abbrev pub Earned : Job → ℕ → List Choice → Node → Type 0
-Earned job e path (Nodes.Side contact children) = Somewhere job e path (λ at. TouchesAt job e at contact)
+Earned job e path (Nodes.Side contact children) = Somewhere job e path (λ at. ContactCollidesAt job e at contact)
 Earned job e path (Nodes.Order i j) =
     IsUnordered path i j × Somewhere job e path (λ at.
     (CollidesAt job e at i j × CollidesAt job e at j i) ⊎ (AreNeighbours job e path at i j ⊎ AreNeighbours job e path at j i))
@@ -67,7 +69,7 @@ Earned job e path (Nodes.Cycle objects) = Unit {0}
 Earned job e path Nodes.Pending = Unit {0}
 
 abbrev pub Grounded : Job → ℕ → List Choice → Node → Type 0
-Grounded job e path (Nodes.Side contact children) = Somewhere job e path (λ at. TouchesAt job e at contact)
+Grounded job e path (Nodes.Side contact children) = Somewhere job e path (λ at. ContactCollidesAt job e at contact)
 Grounded job e path (Nodes.Order i j) = IsUnordered path i j × Somewhere job e path (λ at. CollidesAt job e at i j ⊎ CollidesAt job e at j i)
 Grounded job e path (Nodes.Bound mults) = Unit {0}
 Grounded job e path (Nodes.Cycle objects) = Unit {0}
@@ -97,8 +99,9 @@ pub record CouldSplit (job : Job) (e : ℕ) (path : List Choice) : Type 0 where
   pub children : AreChildren job path node paths
   pub earned : Earned job e path node
 
--- s is the greatest number of sides of a contact, and at least 3
-pub record SpentTree (job : Job) (e budget s : ℕ) (nodes : List Node) : Type 0 where
+pub record SpentTree (job : Job) (e budget : ℕ) (nodes : List Node) : Type 0 where
+  pub s : ℕ
+  pub most : IsMostSides job s
   pub tree : OpenTree job e nodes
   pub spent : budget ≤ length nodes
   pub just : length nodes < budget + s

@@ -64,14 +64,15 @@ abbrev pub LoneLaw : Type 0
 LoneLaw = (scene : Scene) (low high : Spot) → scene.objects ≡ 1 → 1 ≤ scene.grid → pos 1 ≤ℤ scene.width → pos 1 ≤ℤ scene.depth → Spans scene 0 low high → FitsPlate scene.width scene.depth low high → Valid scene scene.grid (lone_plan (zero_place low))
 
 pub prints : LoneLaw → (printer : Printer) (facets : List Facet) (low high : Spot) (place : Place) (text : List ℕ) → Spans (scene_of_files (description_of printer printer.parts) (facets ∷ [])) 0 low high → FitsPlate printer.width printer.depth low high
-    → place ≡ zero_place low → text ≡ plan_text (found printer.grid (lone_plan place)) → PrintsPlan (description_of printer printer.parts) facets text
-prints law printer facets low high place text spans fits is_place is =
+    → place ≡ zero_place low → text ≡ plan_text (found printer.grid (lone_plan place)) → IsPlanFile (found printer.grid (lone_plan place)) → PrintsPlan (description_of printer printer.parts) facets text
+prints law printer facets low high place text spans fits is_place is file =
     let scene = scene_of_files (description_of printer printer.parts) (facets ∷ []) in
     let ranged = printer.ranged in
     record {
       plan = lone_plan (zero_place low);
       valid = law scene low high refl ranged.grid_low ranged.width_low ranged.depth_low spans fits;
       is = is ∙ ap (λ p. plan_text (found printer.grid (lone_plan p))) is_place;
+      file = subst (λ p. IsPlanFile (found printer.grid (lone_plan p))) is_place file;
       zero_point = record { low = low; high = high; spans = spans; is = refl };
     }
 

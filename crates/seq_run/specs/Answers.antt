@@ -13,7 +13,7 @@ use Rattle.std.specs.Prelude.{◌≡◌, ℕ, zero, suc, ◌≤◌, ◌^◌, ◌
 use Rattle.first_forms.specs.Descriptions.{PrinterOf}
 use Rattle.first_forms.specs.Meshes.{MeshOf}
 use Rattle.lone_object.specs.Lone.{FitsPlate, zero_place, lone_plan}
-use Rattle.plan_text.specs.PlanText.{plan_text}
+use Rattle.plan_text.specs.PlanText.{plan_text, IsPlanFile}
 use Rattle.plan_text.specs.declared.file.PlanFile.{PlanFile}
 use Rattle.plan_text.specs.declared.file.State.TheVariants.{Found}
 use Rattle.seq_io.specs.Files.{bytes_of}
@@ -41,6 +41,7 @@ pub record PrintsPlan (d : Description) (facets : List Facet) (text : List ℕ) 
   pub plan : Plan
   pub valid : Valid (scene_of_files d (facets ∷ [])) d.grid plan
   pub is : text ≡ plan_text (found d.grid plan)
+  pub file : IsPlanFile (found d.grid plan)
   pub zero_point : IsZeroPlan (scene_of_files d (facets ∷ [])) plan
 
 pub record Fits (d : Description) (facets : List Facet) : Type 0 where
