@@ -3,9 +3,11 @@
 --   no_three_on_a_line              three different corners don't lie on one line
 --   polygon_turns, polygon_sees     three corners or more: the way around turns left at each, and each edge sees all corners
 --   left_of_polygon, inner_polygon  the points that are inner to the corners are those to the left of all edges
+--   seen_within                     what is within corners that all lie to the left of a way lies there too
 --   seen_by_edges                   no member of a list lies to the right of an edge of its polygon
 --   area_of_three                   a list with three corners or more has area
 --   within_above, within_below      what is within corners from o on, or up to o, is not before o, or not after it
+--   no_mean, one_corner             nothing is within no corners, and within one lies just itself
 --   ends_of_line                    the corners of a list without area are its ends
 use Rattle.std.proofs.Common.{◌≡◌, List, [], ◌∷◌, refl, sym, subst, ◌∙◌, arith, ℤ, pos, neg_ℤ, ◌+ℤ◌, ◌-ℤ◌, ◌*ℤ◌, ◌≤ℤ◌, ◌<ℤ◌, ◌⊎◌, inl, inr}
 use Rattle.std.proofs.lemmas.Int.{ints}
@@ -135,7 +137,7 @@ pub inner_polygon : (a b c : Spot) (cs : List Spot) → TurnsLeft (a ∷ b ∷ c
 inner_polygon a b c cs t q is l = inner_of_left q is a (b ∷ c ∷ cs) (polygon_turns a b c cs t) l
 
 -- ---- members of the list
-seen_within : (u v : Spot) (C : List Spot) → Seen C u v → (s : Spot) → Within C (at_spot s) → pos 0 ≤ℤ turn u v s
+pub seen_within : (u v : Spot) (C : List Spot) → Seen C u v → (s : Spot) → Within C (at_spot s) → pos 0 ≤ℤ turn u v s
 seen_within u v C seen s m =
     le_from (within_at_most (v.y -ℤ u.y) (u.x -ℤ v.x) ((v.y -ℤ u.y) *ℤ u.x +ℤ (u.x -ℤ v.x) *ℤ u.y) C (at_spot s) (λ x i. at_most u v x (seen x i)) m) (simp expand (omega (arith, ints)))
   where
@@ -247,10 +249,10 @@ least_of_list S c cs h s i = within_above (c ∷ cs) c s after (h.keeps.within s
     after x (inl e) = inl e
     after x (inr j) = inr (All-in (IsBefore c) cs x h.corners.least j)
 
-no_mean : (q : Point) → Within [] q → ⊥
+pub no_mean : (q : Point) → Within [] q → ⊥
 no_mean q m = let some = m.some in absurd (omega (arith, ints))
 
-one_corner : (S : List Spot) (a : Spot) → Hull S (a ∷ []) → (s : Spot) → In s S → s ≡ a
+pub one_corner : (S : List Spot) (a : Spot) → Hull S (a ∷ []) → (s : Spot) → In s S → s ≡ a
 one_corner S a h s i = pick (least_of_list S a [] h s i) (within_below (a ∷ []) a s (λ x j. only x j) (h.keeps.within s i))
   where
     only : (x : Spot) → In x (a ∷ []) → (x ≡ a) ⊎ IsBefore x a

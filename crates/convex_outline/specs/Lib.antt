@@ -1,3 +1,4 @@
+pub mod Area
 pub mod BothChains
 pub mod ChainLaws
 pub mod Chains

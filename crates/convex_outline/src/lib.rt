@@ -8,7 +8,7 @@
 //! contracts, and the other modules of `specs/` the geometry, from weights and turns to the polygon of any list.
 #![tactic(auto)]
 
-ghost use Rattle.std.specs.Prelude.{◌≡◌, List, [], reverse, IfOk, All, Contains, ◌<◌, ◌^◌, ◌-ℤ◌, unsigned_abs, ◌↔◌};
+ghost use Rattle.std.specs.Prelude.{◌≡◌, List, [], reverse, IfOk, All, Contains, ◌<◌, ◌≤◌, length, ◌^◌, ◌-ℤ◌, unsigned_abs, ◌↔◌};
 ghost use Rattle.seq_model.specs.declared.printer.Spot.{Spot};
 ghost use Rattle.seq_model.specs.Points.{Point};
 ghost use Rattle.seq_model.specs.Outlines.{Inner, Within};
@@ -104,6 +104,7 @@ pub fn hull(alloc: Global, spots: &[Spot]) -> Result<Vec<Spot>, NoMemory>
     ensures members { IfOk result (λ hull. All (Contains spots.now) hull.items) }
     ensures within { IfOk result (λ hull. All (λ s. Within hull.items (at_spot s)) spots.now) }
     ensures inner { IfOk result (λ hull. (q : Point) → Inner hull.items q ↔ Inner spots.now q) }
+    ensures area { IfOk result (λ hull. HasArea spots.now → 3 ≤ length hull.items) }
     ensures ends { IfOk result (λ hull. (HasArea spots.now → ⊥) → AreEnds spots.now hull.items) }
 {
     let sorted = ascending(alloc, spots)?;
@@ -117,6 +118,11 @@ pub fn hull(alloc: Global, spots: &[Spot]) -> Result<Vec<Spot>, NoMemory>
 /// points. It is what a polygon of differences stands on, whose spots no list in memory holds.
 pub fn every_list_has_corners()
     ensures { (spots : List Spot) → HullOf spots }
+{}
+
+/// A list that has area has three corners or more: its corners are a polygon.
+pub fn a_list_with_area_has_a_polygon()
+    ensures { (spots : List Spot) (of : HullOf spots) → HasArea spots → 3 ≤ length of.corners }
 {}
 
 /// Three different corners never lie on one line, wherever they stand in the list.
