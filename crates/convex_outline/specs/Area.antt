@@ -5,7 +5,7 @@ use Rattle.std.proofs.Common.{◌≡◌, ◌≤◌, List, [], ◌∷◌, length,
 use Rattle.std.proofs.lemmas.Int.{ints}
 use Rattle.integer_laws.specs.Ring.{expand}
 use Rattle.integer_laws.specs.Order.{le_of_same, lt_from, same_from, add_le, add_lt_le, add_same, mul_positive, mul_same}
-use Rattle.integer_laws.specs.Members.{In, All-in}
+use Rattle.integer_laws.specs.Members.{In, All-in, In-from_contains}
 use Rattle.seq_model.specs.declared.printer.Spot.{Spot}
 use Rattle.convex_outline.specs.Corners.{turn, at_spot, IsBefore, HasArea}
 use Rattle.convex_outline.specs.Vectors.{turn_flipped, turn_start, turn_end}
@@ -50,8 +50,8 @@ on_line S a b h s i =
 
 -- a list with area has three corners or more
 pub three_of_area : (S C : List Spot) → Hull S C → HasArea S → 3 ≤ length C
-three_of_area S [] h g = absurd (no_mean (at_spot g.i) (h.keeps.within g.i g.i_in))
-three_of_area S (a ∷ []) h g = absurd (flat a g.i g.j g.k (one_corner S a h g.i g.i_in) (one_corner S a h g.j g.j_in) g.turns)
+three_of_area S [] h g = absurd (no_mean (at_spot g.i) (h.keeps.within g.i (In-from_contains S g.i g.i_in)))
+three_of_area S (a ∷ []) h g = absurd (flat a g.i g.j g.k (one_corner S a h g.i (In-from_contains S g.i g.i_in)) (one_corner S a h g.j (In-from_contains S g.j g.j_in)) g.turns)
   where
     still : (a k : Spot) → pos 0 <ℤ turn a a k → ⊥
     still a k t = let never : pos 0 <ℤ pos 0 = lt_from t (simp expand (omega (arith, ints))) in absurd (omega (arith, ints, never))
@@ -59,9 +59,9 @@ three_of_area S (a ∷ []) h g = absurd (flat a g.i g.j g.k (one_corner S a h g.
     flat : (a i j k : Spot) → i ≡ a → j ≡ a → pos 0 <ℤ turn i j k → ⊥
     flat a i j k e f t = still a k (subst (λ y. pos 0 <ℤ turn a y k) f (subst (λ y. pos 0 <ℤ turn y j k) e t))
 three_of_area S (a ∷ b ∷ []) h g =
-    let i = on_line S a b h g.i g.i_in in
-    let j = on_line S a b h g.j g.j_in in
-    let k = on_line S a b h g.k g.k_in in
+    let i = on_line S a b h g.i (In-from_contains S g.i g.i_in) in
+    let j = on_line S a b h g.j (In-from_contains S g.j g.j_in) in
+    let k = on_line S a b h g.k (In-from_contains S g.k g.k_in) in
     absurd (no_turn (b.x -ℤ a.x) (b.y -ℤ a.y) (g.j.x -ℤ g.i.x) (g.j.y -ℤ g.i.y) (g.k.x -ℤ g.i.x) (g.k.y -ℤ g.i.y) (along a b g.i g.k i k) (along a b g.i g.j i j)
     (ahead a b (All-in (IsBefore a) (b ∷ []) b h.corners.least (inl refl))) g.turns)
 three_of_area S (a ∷ b ∷ c ∷ cs) h g = omega arith

@@ -9,7 +9,7 @@ use Rattle.std.proofs.lemmas.Int.{ints}
 use Rattle.std.proofs.lemmas.List.{append_assoc, append-nil, reverse-append}
 use Rattle.std.proofs.lemmas.List.Elements.{All-nil}
 use Rattle.std.specs.Prelude.{reverse}
-use Rattle.integer_laws.specs.Members.{In}
+use Rattle.integer_laws.specs.Members.{In, Contains-from_in}
 use Rattle.seq_model.specs.declared.printer.Spot.{Spot}
 use Rattle.seq_model.specs.Outlines.{Within}
 use Rattle.convex_outline.specs.Corners.{turn, at_spot, LeftAbout, TurnsLeft, HasArea}
@@ -222,9 +222,9 @@ meet hx hy S b (a ∷ ls) t [] p e f r = absurd (never (subst (λ u. height hx h
     never : height hx hy b <ℤ height hx hy b → ⊥
     never h = omega (arith, ints)
 meet hx hy S b (a ∷ z ∷ ls) t (u ∷ us) p e f r =
-    of_area hx hy S b a (z ∷ ls) t u us (record { i = z; j = a; k = b; i_in = r.low_in z (inr (inr (inl refl))); j_in = r.low_in a (inr (inl refl)); k_in = r.low_in b (inl refl); turns = r.low_bends.0 }) e f r
+    of_area hx hy S b a (z ∷ ls) t u us (record { i = z; j = a; k = b; i_in = Contains-from_in S z (r.low_in z (inr (inr (inl refl)))); j_in = Contains-from_in S a (r.low_in a (inr (inl refl))); k_in = Contains-from_in S b (r.low_in b (inl refl)); turns = r.low_bends.0 }) e f r
 meet hx hy S b (a ∷ []) t (u ∷ v ∷ us) p e f r =
-    of_area hx hy S b a [] t u (v ∷ us) (record { i = v; j = u; k = t; i_in = r.high_in v (inr (inr (inl refl))); j_in = r.high_in u (inr (inl refl)); k_in = r.high_in t (inl refl); turns = r.high_bends.0 }) e f r
+    of_area hx hy S b a [] t u (v ∷ us) (record { i = v; j = u; k = t; i_in = Contains-from_in S v (r.high_in v (inr (inr (inl refl)))); j_in = Contains-from_in S u (r.high_in u (inr (inl refl))); k_in = Contains-from_in S t (r.high_in t (inl refl)); turns = r.high_bends.0 }) e f r
 meet hx hy S b (a ∷ []) t (u ∷ []) p e f r = two_ends hx hy S b a t u p e f r
 
 -- ---- of points that ascend

@@ -10,7 +10,7 @@ use Rattle.std.proofs.Common.{◌≡◌, List, [], ◌∷◌, refl, sym, ◌∙�
 use Rattle.std.proofs.lemmas.Int.{ints, by_lt_z}
 use Rattle.integer_laws.specs.Ring.{expand}
 use Rattle.integer_laws.specs.Order.{le_from, lt_from, add_le, add_lt_le, le_of_same, mul_same, mul_nonneg, mul_positive, cancel_le}
-use Rattle.integer_laws.specs.Members.{In}
+use Rattle.integer_laws.specs.Members.{In, In-from_contains}
 use Rattle.seq_model.specs.declared.printer.Spot.{Spot}
 use Rattle.convex_outline.specs.Corners.{turn, HasArea}
 use Rattle.convex_outline.specs.Vectors.{less, cross, height, three, rises, cross_back, turn_back, turn_behind}
@@ -91,7 +91,7 @@ no_area hx hy a b i j k p e f g t =
     zero m n e f = omega (arith, ints)
 
 pub sharp : (hx hy : ℤ) (S : List Spot) (a b c : Spot) → height hx hy a <ℤ height hx hy b → height hx hy c <ℤ height hx hy b → In c S → Seen S a b → Seen S b c → HasArea S → pos 0 <ℤ turn a b c
-sharp hx hy S a b c p q i s r area = by_lt_z (pos 0) (turn a b c) (λ h. h) (λ h. absurd (none (no_area hx hy a b area.i area.j area.k p (flat h area.i area.i_in) (flat h area.j area.j_in) (flat h area.k area.k_in) area.turns)))
+sharp hx hy S a b c p q i s r area = by_lt_z (pos 0) (turn a b c) (λ h. h) (λ h. absurd (none (no_area hx hy a b area.i area.j area.k p (flat h area.i (In-from_contains S area.i area.i_in)) (flat h area.j (In-from_contains S area.j area.j_in)) (flat h area.k (In-from_contains S area.k area.k_in)) area.turns)))
   where
     none : pos 0 <ℤ pos 0 → ⊥
     none h = omega (arith, ints)

@@ -14,7 +14,6 @@
 --   HasArea S           three members turn left: they don't all lie on one line
 --   IsNear s            the coordinates of s are below 2^21 in size
 use Rattle.std.specs.Prelude.{◌≡◌, ◌<◌, ◌^◌, List, [], ◌∷◌, ℤ, pos, ◌-ℤ◌, ◌*ℤ◌, ◌<ℤ◌, ◌⊎◌, unsigned_abs, All, Contains}
-use Rattle.integer_laws.specs.Members.{In}
 use Rattle.seq_model.specs.declared.printer.Spot.{Spot}
 use Rattle.seq_model.specs.Points.{Point}
 
@@ -75,9 +74,9 @@ pub record HasArea (S : List Spot) : Type 0 where
   pub i : Spot
   pub j : Spot
   pub k : Spot
-  pub i_in : In i S
-  pub j_in : In j S
-  pub k_in : In k S
+  pub i_in : Contains S i
+  pub j_in : Contains S j
+  pub k_in : Contains S k
   pub turns : pos 0 <ℤ turn i j k
 
 abbrev pub IsNear : Spot → Type 0

@@ -157,9 +157,9 @@ area_of_three S a b c cs h =
       i = a;
       j = b;
       k = c;
-      i_in = h.keeps.members a (inl refl);
-      j_in = h.keeps.members b (inr (inl refl));
-      k_in = h.keeps.members c (inr (inr (inl refl)));
+      i_in = Contains-from_in S a (h.keeps.members a (inl refl));
+      j_in = Contains-from_in S b (h.keeps.members b (inr (inl refl)));
+      k_in = Contains-from_in S c (h.keeps.members c (inr (inr (inl refl))));
       turns = All-in (λ x. pos 0 <ℤ turn a b x) (c ∷ cs) c h.corners.left.0.0 (inl refl);
     }
 

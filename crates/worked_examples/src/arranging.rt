@@ -1,5 +1,5 @@
 use crate::meshes::{block, blocks};
-use seq_io::{MemFile, MemShelf, MemSink};
+use seq_io::{MemFile, MemShelf, MemSink, ReadAll, Shelf, read_all};
 use seq_run::run;
 use std::alloc::Global;
 use std::test::Fail;
@@ -162,5 +162,23 @@ fn words_and_failures_have_their_lines(rt: HostRuntime) -> Result<(), Fail> {
     let done = run_in_memory(alloc, PLATE, block(alloc, 20, 20, 20)?, all, &[], &[1])?;
     assert_eq!(rt; done.status, 8);
     assert_eq!(rt; done.out.taken(), b"seqplan 1\n".as_slice());
+    Ok(())
+}
+
+// One byte past the limit is read, and no more.
+#[test]
+fn a_file_over_its_limit_is_left_there(rt: HostRuntime) -> Result<(), Fail> {
+    let alloc = rt.alloc();
+    let mut files = Vec::new(alloc);
+    files.push(MemFile::new(
+        String::from_str(alloc, "cube.stl")?,
+        Vec::from_slice(alloc, b"0123456789")?,
+    ))?;
+    let mut shelf = MemShelf::new(files, 1 << 20, Vec::new(alloc));
+    let name = String::from_str(alloc, "cube.stl")?;
+    assert!(rt; matches!(read_all(alloc, &mut shelf, name, 4), Err(ReadAll::TooLong)));
+    let mut rest = [0; 16];
+    assert!(rt; matches!(shelf.read(&mut rest), Ok(5)));
+    assert_eq!(rt; &rest[..5], b"56789".as_slice());
     Ok(())
 }
