@@ -1,1 +1,5 @@
+pub mod CornerPoints
+pub mod Folding
 pub mod Objects
+pub mod Ranges
+pub mod Vertices

@@ -9,8 +9,16 @@
 //! has the words of the contract.
 #![tactic(auto)]
 
+mod extremes;
+mod measure;
 mod objects;
+mod outline;
+mod points;
 mod slice;
+mod zones;
 
 pub use objects::object;
 pub use slice::Slice;
+
+#[cfg(test)]
+mod tests;

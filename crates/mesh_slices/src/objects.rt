@@ -2,6 +2,9 @@ ghost use Rattle.std.specs.Prelude.{IfOk, IfErr};
 ghost use Rattle.mesh_slices.specs.Objects.{IsObjectOf, CanBeSliced, IsRefusedAs};
 
 use crate::Slice;
+use crate::measure::measure_of;
+use crate::zones::zones_of;
+use owned_lists::{Items, Text};
 use seq_model::{Mesh, Object, Printer};
 use std::alloc::Global;
 
@@ -11,5 +14,22 @@ pub fn object(alloc: Global, name: &str, mesh: &Mesh, printer: &Printer) -> Resu
     ensures sliced { IfOk result (λ _. CanBeSliced mesh.now.facets printer.now.step) }
     ensures refused { IfErr result (IsRefusedAs mesh.now.facets printer.now.step) }
 {
-    Err(Slice::NoMemory)
+    let facets = mesh.facets.as_slice();
+    if facets.is_empty() {
+        return Err(Slice::Flat);
+    }
+    let measure = measure_of(printer, facets);
+    if measure.bands > 200 {
+        return Err(Slice::TooTall(measure.bands));
+    }
+    let bands = measure.bands as u32;
+    let zones = zones_of(alloc, facets, printer, measure.bottom, bands)?;
+    Ok(Object {
+        name: Text::from_str(alloc, name)?,
+        height: measure.height,
+        bands,
+        low: measure.low,
+        high: measure.high,
+        zones: Items::from_vec(zones),
+    })
 }

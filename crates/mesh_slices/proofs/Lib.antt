@@ -1,0 +1,5 @@
+mod Holding
+mod InBand
+mod Members
+mod Reached
+mod Running
