@@ -29,12 +29,12 @@ pub record AroundFacet (low high : Point3) (f : Facet) : Type 0 where
   pub c : Around low high f.c
 
 -- so does a corner point, over its denominator
-record AroundPoint (low high : Point3) (p : Point) : Type 0 where
-  over : pos 0 <ℤ p.d
-  west : (p.d *ℤ low.x) ≤ℤ p.x
-  east : p.x ≤ℤ (p.d *ℤ high.x)
-  south : (p.d *ℤ low.y) ≤ℤ p.y
-  north : p.y ≤ℤ (p.d *ℤ high.y)
+pub record AroundPoint (low high : Point3) (p : Point) : Type 0 where
+  pub over : pos 0 <ℤ p.d
+  pub west : (p.d *ℤ low.x) ≤ℤ p.x
+  pub east : p.x ≤ℤ (p.d *ℤ high.x)
+  pub south : (p.d *ℤ low.y) ≤ℤ p.y
+  pub north : p.y ≤ℤ (p.d *ℤ high.y)
 
 of_vertex : (low high : Point3) (from to : ℤ) (p : Point3) → Around low high p → All (AroundPoint low high) (vertex_in from to p)
 of_vertex low high from to p a =
@@ -80,7 +80,7 @@ of_crossings low high h f a =
     All-append P (crossing h f.a f.b) (crossing h f.b f.c ++ crossing h f.c f.a) (of_crossing low high h f.a f.b a.a a.b)
     (All-append P (crossing h f.b f.c) (crossing h f.c f.a) (of_crossing low high h f.b f.c a.b a.c) (of_crossing low high h f.c f.a a.c a.a))
 
-of_facet : (low high : Point3) (from to : ℤ) (f : Facet) → AroundFacet low high f → All (AroundPoint low high) (facet_corners from to f)
+pub of_facet : (low high : Point3) (from to : ℤ) (f : Facet) → AroundFacet low high f → All (AroundPoint low high) (facet_corners from to f)
 of_facet low high from to f a =
     let P : Point → Type 0 = AroundPoint low high in
     All-append P (vertex_in from to f.a ++ (vertex_in from to f.b ++ vertex_in from to f.c)) (crossings from f ++ crossings to f)
@@ -98,7 +98,7 @@ spot_below grain margin p = record { x = below margin p.x grain; y = below margi
 abbrev pub spot_above : ℤ → ℤ → Point3 → Spot
 spot_above grain margin p = record { x = above margin p.x grain; y = above margin p.y grain }
 
-of_four : (grain margin : ℤ) (low high : Point3) (p : Point) → pos 0 <ℤ grain → pos 0 ≤ℤ margin → AroundPoint low high p → All (Between (spot_below grain margin low) (spot_above grain margin high)) (four_spots grain margin p)
+pub of_four : (grain margin : ℤ) (low high : Point3) (p : Point) → pos 0 <ℤ grain → pos 0 ≤ℤ margin → AroundPoint low high p → All (Between (spot_below grain margin low) (spot_above grain margin high)) (four_spots grain margin p)
 of_four grain margin low high p g m a =
     let d = p.d *ℤ grain in
     let one = mul_positive p.d grain a.over g in

@@ -3,3 +3,6 @@ mod InBand
 mod Members
 mod Reached
 mod Running
+mod Nearness
+mod Outlines
+mod Pushes

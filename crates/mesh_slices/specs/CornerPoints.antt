@@ -4,7 +4,7 @@
 --   points_of ps          the same of each
 use Rattle.std.specs.Prelude.{List, map}
 use Rattle.seq_model.specs.Points.{Point}
-use Rattle.mesh_slices.specs.declared.points.CornerPoint.{CornerPoint}
+use Rattle.mesh_slices.specs.declared.corner.CornerPoint.{CornerPoint}
 
 abbrev pub as_point : CornerPoint → Point
 as_point p = record { x = p.x; y = p.y; d = p.d }

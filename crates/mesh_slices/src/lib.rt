@@ -9,6 +9,7 @@
 //! has the words of the contract.
 #![tactic(auto)]
 
+mod corner;
 mod extremes;
 mod measure;
 mod objects;

@@ -8,7 +8,8 @@ ghost use Rattle.mesh_slices.specs.CornerPoints.{as_point};
 ghost use Rattle.mesh_slices.specs.Folding.{StandsFor};
 ghost use Rattle.mesh_slices.specs.Objects.{IsOutlineOf};
 
-use crate::points::{CornerPoint, Slab, corner_points, misses};
+use crate::corner::{CornerPoint, Slab};
+use crate::points::{corner_points, misses};
 use convex_outline::hull;
 use seq_model::{Facet, Printer, Spot};
 use seq_num::NoMemory;

@@ -1,36 +1,13 @@
-ghost use Rattle.std.specs.Prelude.{◌≡◌, ◌++◌, [], ◌≤◌, ◌<ℤ◌, ◌≤ℤ◌, pos, ◌+ℤ◌, ◌*ℤ◌, ◌-ℤ◌, unsigned_abs, IfOk, OnOk};
+ghost use Rattle.std.specs.Prelude.{◌≡◌, ◌++◌, [], ◌∷◌, ◌≤◌, ◌<ℤ◌, ◌≤ℤ◌, pos, ◌+ℤ◌, ◌*ℤ◌, ◌-ℤ◌, ◌&&◌, unsigned_abs, IfOk, OnOk, IsTrue};
+ghost use Rattle.std.specs.Int.Signed.{lt_z, le_z};
 ghost use Rattle.seq_model.specs.Bands.{vertex_in, crossing_up, crossings, facet_corners};
 ghost use Rattle.seq_model.specs.Bounds.{IsNear, IsNearFacet};
 ghost use Rattle.mesh_slices.specs.CornerPoints.{as_point, points_of};
-ghost use Rattle.mesh_slices.specs.Ranges.{IsRanged};
 
+use crate::corner::{CornerPoint, Slab};
 use seq_model::{Facet, Point3};
 use smallvec::SmallVec;
 use std::alloc::{AllocError, Global};
-
-/// The heights of a band, from low to high, in µm as the mesh has them.
-#[derive(Clone, Copy)]
-pub struct Slab {
-    pub low: i64,
-    pub high: i64,
-    pub ghost rises: { low ≤ℤ high },
-}
-
-/// The corner point x / d, y / d, in µm.
-#[derive(Clone, Copy)]
-pub struct CornerPoint {
-    pub x: i64,
-    pub y: i64,
-    pub d: i64,
-    pub ghost ranged: { IsRanged x y d },
-}
-
-// A list that keeps some elements in itself fills its free places with this one.
-impl Default for CornerPoint {
-    fn default() -> Self {
-        CornerPoint { x: 0, y: 0, d: 1 }
-    }
-}
 
 /// The corner points of one facet in one band: at most its three vertices, and three crossings of each of two heights.
 pub type CornerPoints = SmallVec<CornerPoint, 9>;
@@ -73,9 +50,7 @@ fn crossing_of(height: i64, under: &Point3, over: &Point3) -> CornerPoint
     requires over { IsNear over.now }
     requires from { under.now.z <ℤ height }
     requires to { height <ℤ over.now.z }
-    ensures x { result.x ≡ under.now.x *ℤ (over.now.z -ℤ height) +ℤ over.now.x *ℤ (height -ℤ under.now.z) }
-    ensures y { result.y ≡ under.now.y *ℤ (over.now.z -ℤ height) +ℤ over.now.y *ℤ (height -ℤ under.now.z) }
-    ensures d { result.d ≡ over.now.z -ℤ under.now.z }
+    ensures { crossing_up height under.now over.now ≡ as_point result ∷ [] }
 {
     let up = rise_of(height, over.z);
     let down = rise_of(under.z, height);
@@ -96,12 +71,26 @@ fn point_at(p: &Point3) -> CornerPoint
     }
 }
 
+// Whether a height is one of a band's.
+fn holds(slab: &Slab, z: i64) -> bool
+    ensures { result ≡ (le_z slab.now.low z && le_z z slab.now.high) }
+{
+    slab.low <= z && z <= slab.high
+}
+
+// Whether an edge that begins at one height and ends at another goes up through a third.
+fn goes_up_through(height: i64, from: i64, to: i64) -> bool
+    ensures { result ≡ (lt_z from height && lt_z height to) }
+{
+    from < height && height < to
+}
+
 // Adds a vertex that lies in the band.
 fn add_vertex(points: &mut CornerPoints, p: &Point3, slab: &Slab) -> Result<(), AllocError>
     requires { IsNear p.now }
     ensures { OnOk result (points_of points.new.items ≡ points_of points.old.items ++ vertex_in slab.now.low slab.now.high p.now) }
 {
-    if slab.low <= p.z && p.z <= slab.high {
+    if holds(slab, p.z) {
         points.push(point_at(p))?;
     }
     Ok(())
@@ -118,7 +107,7 @@ fn add_crossing(
     requires to { IsNear to.now }
     ensures { OnOk result (points_of points.new.items ≡ points_of points.old.items ++ crossing_up height from.now to.now) }
 {
-    if from.z < height && height < to.z {
+    if goes_up_through(height, from.z, to.z) {
         points.push(crossing_of(height, from, to))?;
     }
     Ok(())
@@ -137,6 +126,20 @@ fn add_crossings(points: &mut CornerPoints, height: i64, f: &Facet) -> Result<()
     add_crossing(points, height, &f.a, &f.c)
 }
 
+fn add_lower_crossings(points: &mut CornerPoints, f: &Facet, slab: &Slab) -> Result<(), AllocError>
+    requires { IsNearFacet f.now }
+    ensures { OnOk result (points_of points.new.items ≡ points_of points.old.items ++ crossings slab.now.low f.now) }
+{
+    add_crossings(points, slab.low, f)
+}
+
+fn add_upper_crossings(points: &mut CornerPoints, f: &Facet, slab: &Slab) -> Result<(), AllocError>
+    requires { IsNearFacet f.now }
+    ensures { OnOk result (points_of points.new.items ≡ points_of points.old.items ++ crossings slab.now.high f.now) }
+{
+    add_crossings(points, slab.high, f)
+}
+
 /// The corner points of a facet in a band.
 pub fn corner_points(alloc: Global, f: &Facet, slab: &Slab) -> Result<CornerPoints, AllocError>
     requires { IsNearFacet f.now }
@@ -146,18 +149,26 @@ pub fn corner_points(alloc: Global, f: &Facet, slab: &Slab) -> Result<CornerPoin
     add_vertex(&mut points, &f.a, slab)?;
     add_vertex(&mut points, &f.b, slab)?;
     add_vertex(&mut points, &f.c, slab)?;
-    add_crossings(&mut points, slab.low, f)?;
-    add_crossings(&mut points, slab.high, f)?;
+    add_lower_crossings(&mut points, f, slab)?;
+    add_upper_crossings(&mut points, f, slab)?;
     Ok(points)
 }
 
-// Whether a facet lies wholly below a band, or wholly above it.
-pub fn misses(f: &Facet, slab: &Slab) -> bool
-    ensures { result ≡ true → facet_corners slab.now.low slab.now.high f.now ≡ [] }
+fn lies_below(f: &Facet, height: i64) -> bool
+    ensures { IsTrue result → (f.now.a.z <ℤ height) × (f.now.b.z <ℤ height) × (f.now.c.z <ℤ height) }
 {
-    let (low, high) = (slab.low, slab.high);
-    if f.a.z < low && f.b.z < low && f.c.z < low {
-        return true;
-    }
-    f.a.z > high && f.b.z > high && f.c.z > high
+    f.a.z < height && f.b.z < height && f.c.z < height
+}
+
+fn lies_above(f: &Facet, height: i64) -> bool
+    ensures { IsTrue result → (height <ℤ f.now.a.z) × (height <ℤ f.now.b.z) × (height <ℤ f.now.c.z) }
+{
+    f.a.z > height && f.b.z > height && f.c.z > height
+}
+
+/// Whether a facet lies wholly below a band, or wholly above it.
+pub fn misses(f: &Facet, slab: &Slab) -> bool
+    ensures { IsTrue result → facet_corners slab.now.low slab.now.high f.now ≡ [] }
+{
+    lies_below(f, slab.low) || lies_above(f, slab.high)
 }

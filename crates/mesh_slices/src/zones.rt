@@ -1,5 +1,5 @@
+use crate::corner::Slab;
 use crate::outline::outline_of;
-use crate::points::Slab;
 use owned_lists::Items;
 use seq_model::{Facet, Printer, Spot, Zone};
 use seq_num::NoMemory;
