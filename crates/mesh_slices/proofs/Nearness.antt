@@ -32,7 +32,7 @@ floor_far : (grain : ℤ) → pos 10 ≤ℤ grain → neg_ℤ (pos 1_000_000) �
 floor_far grain g =
     let p : pos 0 <ℤ grain = omega (arith, ints) in
     let f = floor_is (neg_ℤ (pos 10_000_000)) grain p in
-    let e : grain *ℤ neg_ℤ (pos 1_000_000) ≤ℤ neg_ℤ (pos 10_000_000) = omega (arith, ints) in
+    let e : (grain *ℤ neg_ℤ (pos 1_000_000)) ≤ℤ neg_ℤ (pos 10_000_000) = omega (arith, ints) in
     let high = f.high in
     least_quotient grain (neg_ℤ (pos 1_000_000)) (floor (neg_ℤ (pos 10_000_000)) grain) p (omega (arith, ints))
 

@@ -4,6 +4,7 @@ use Rattle.std.proofs.Math.Bool.{and-false}
 use Rattle.std.proofs.Math.Dec.{T}
 use Rattle.std.proofs.lemmas.Int.{ints, unsigned_abs-mul}
 use Rattle.std.specs.Int.Signed.{lt_z, le_z, lt_z_yes, le_z_yes}
+use Rattle.integer_laws.specs.Order.{one_le, mul_positive}
 use Rattle.seq_model.specs.declared.mesh.Point3.{Point3}
 use Rattle.seq_model.specs.declared.mesh.Facet.{Facet}
 use Rattle.seq_model.specs.Bands.{vertex_in, crossing_up, crossing, crossings, facet_corners}
@@ -14,6 +15,15 @@ use Rattle.mesh_slices.specs.CornerPoints.{as_point, points_of}
 -- ---- sizes
 pub part_size : (x rise : ℤ) → unsigned_abs x ≤ 10_000_000 → unsigned_abs rise ≤ 20_000_000 → unsigned_abs (x *ℤ rise) ≤ 200_000_000_000_000
 part_size x rise h k = rw (unsigned_abs-mul x rise) (mul-le-mul h k)
+
+pub span_size : (d grain : ℤ) → pos 1 ≤ℤ d → d ≤ℤ pos 20_000_000 → pos 1 ≤ℤ grain → grain ≤ℤ pos 10_000 → unsigned_abs (d *ℤ grain) ≤ 200_000_000_000
+span_size d grain dl dh gl gh =
+    let a : unsigned_abs d ≤ 20_000_000 = omega (arith, ints) in
+    let b : unsigned_abs grain ≤ 10_000 = omega (arith, ints) in
+    rw (unsigned_abs-mul d grain) (mul-le-mul a b)
+
+pub span_low : (d grain : ℤ) → pos 1 ≤ℤ d → pos 1 ≤ℤ grain → pos 1 ≤ℤ (d *ℤ grain)
+span_low d grain p q = one_le (mul_positive d grain (omega (arith, ints)) (omega (arith, ints)))
 
 -- ---- lists
 -- the points of a list and one more

@@ -11,6 +11,7 @@
 
 mod corner;
 mod extremes;
+mod grains;
 mod measure;
 mod objects;
 mod outline;

@@ -1,5 +1,5 @@
-ghost use Rattle.std.specs.Prelude.{◌≡◌, ◌<◌, ◌≤◌, pos, ◌-ℤ◌, neg_ℤ, ◌≤ℤ◌, [], ◌∷◌, List, length, All, unsigned_abs, max};
-ghost use Rattle.integer_laws.specs.Quotients.{floor, ceil};
+ghost use Rattle.std.specs.Prelude.{◌≡◌, ◌<◌, ◌≤◌, pos, ◌-ℤ◌, ◌≤ℤ◌, [], ◌∷◌, List, length, All, unsigned_abs, max};
+ghost use Rattle.integer_laws.specs.Quotients.{ceil};
 ghost use Rattle.seq_model.specs.Bands.{band_count, height_of, least_z};
 ghost use Rattle.seq_model.specs.Bounds.{IsNear, IsNearFacet};
 ghost use Rattle.seq_model.specs.Outlines.{below, above};
@@ -7,6 +7,7 @@ ghost use Rattle.seq_model.specs.Scenes.{Spans, scene_of_files, description_of};
 ghost use Rattle.seq_model.specs.declared.printer.Part.{Part};
 
 use crate::extremes::extremes_of;
+use crate::grains::{ceil_of, spot_above, spot_below};
 use seq_model::{Facet, Point3, Printer, Spot};
 
 /// What a mesh measures: the least and the greatest spot coordinates over all bands, in grains; its least z and its height,
@@ -18,54 +19,6 @@ pub struct Measure {
     pub bottom: i64,
     pub height: i64,
     pub bands: u64,
-}
-
-// A coordinate in grains, rounded down.
-fn floor_grains(x: i64, grain: i64) -> i64
-    requires near { unsigned_abs x ≤ 20_000_000 }
-    requires grain { pos 1 ≤ℤ grain }
-    ensures value { result ≡ floor x grain }
-    ensures size { unsigned_abs result ≤ 20_000_000 }
-{
-    x.div_euclid(grain)
-}
-
-fn negated(x: i64) -> i64
-    requires near { unsigned_abs x ≤ 20_000_000 }
-    ensures value { result ≡ neg_ℤ x }
-    ensures size { unsigned_abs result ≡ unsigned_abs x }
-{
-    -x
-}
-
-// A coordinate in grains, rounded up.
-fn ceil_grains(x: i64, grain: i64) -> i64
-    requires near { unsigned_abs x ≤ 20_000_000 }
-    requires grain { pos 1 ≤ℤ grain }
-    ensures value { result ≡ ceil x grain }
-    ensures size { unsigned_abs result ≤ 20_000_000 }
-{
-    negated(floor_grains(negated(x), grain))
-}
-
-// The least spot coordinate round a coordinate in µm.
-fn spot_below(x: i64, grain: i64, margin: i64) -> i64
-    requires near { unsigned_abs x ≤ 10_000_000 }
-    requires grain { pos 1 ≤ℤ grain }
-    requires margin { unsigned_abs margin ≤ 1_000 }
-    ensures { result ≡ below margin x grain }
-{
-    floor_grains(x, grain) - margin
-}
-
-// The greatest spot coordinate round a coordinate in µm.
-fn spot_above(x: i64, grain: i64, margin: i64) -> i64
-    requires near { unsigned_abs x ≤ 10_000_000 }
-    requires grain { pos 1 ≤ℤ grain }
-    requires margin { unsigned_abs margin ≤ 1_000 }
-    ensures { result ≡ above margin x grain }
-{
-    ceil_grains(x, grain) + margin
 }
 
 // The spot below a corner in x and in y.
@@ -105,7 +58,7 @@ fn bands_of(height: i64, step: i64) -> u64
     requires step { pos 1 ≤ℤ step }
     ensures { result ≡ max 1 (unsigned_abs (ceil height step)) }
 {
-    ceil_grains(height, step).unsigned_abs().max(1)
+    ceil_of(height, step).unsigned_abs().max(1)
 }
 
 /// The measure of a mesh.
