@@ -6,3 +6,4 @@ mod Running
 mod Nearness
 mod Outlines
 mod Pushes
+mod Grown

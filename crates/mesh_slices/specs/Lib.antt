@@ -2,4 +2,5 @@ pub mod CornerPoints
 pub mod Folding
 pub mod Objects
 pub mod Ranges
+pub mod Runs
 pub mod Vertices
