@@ -53,14 +53,14 @@ all_weaker : (S : ℕ → List Spot) (n : ℕ) (zones : List Zone) → All (IsRu
 all_weaker S n zones each k d h = weaker S n (get_or zones k d) (each k d h)
 
 -- a band below n + 1 is below n or is n
-by_band : {P : ℕ → Type 0} (n b : ℕ) → b < n + 1 → (b < n → P b) → P n → P b
-by_band {P} n b h below at = ⊎_elim below (λ past. subst P (omega arith) at) (cases_lt b n)
+by_band : (P : ℕ → Type 0) (n b : ℕ) → b < n + 1 → (b < n → P b) → P n → P b
+by_band P n b h below at = ⊎_elim below (λ past. subst P (omega arith) at) (cases_lt b n)
 
 pub nothing_added : (S : ℕ → List Spot) (n : ℕ) (zones : List Zone) → AreRunsOf S n zones → IsOutlineOf (S n) [] → AreRunsOf S (n + 1) zones
 nothing_added S n zones r o = record {
   rise = r.rise;
   each = all_weaker S n zones r.each;
-  held = λ b h. by_band {P = λ k. S k ≢ [] → Holds zones k} n b h (λ below. r.held b below) (λ some. absurd (some (no_spots (S n) o)));
+  held = λ b h. by_band (λ k. S k ≢ [] → Holds zones k) n b h (λ below. r.held b below) (λ some. absurd (some (no_spots (S n) o)));
   longest = r.longest;
 }
 
@@ -75,7 +75,7 @@ pub zone_added : (S : ℕ → List Spot) (n : ℕ) (zones : List Zone) (C : List
 zone_added S n zones C r o some differs = record {
   rise = all_pairs_push (λ y z. y.last < z.first) zones (one_band C n) r.rise (λ k d h. (r.each k d h).below_count);
   each = All-append (IsRunOf S (n + 1)) zones (one_band C n ∷ []) (all_weaker S n zones r.each) (All-cons (IsRunOf S (n + 1)) (one_band C n) [] run (All-nil (IsRunOf S (n + 1))));
-  held = λ b h. by_band {P = λ k. S k ≢ [] → Holds (zones ++ one_band C n ∷ []) k} n b h (λ below full. in_longer zones (one_band C n) b (r.held b below full)) (λ full. here);
+  held = λ b h. by_band (λ k. S k ≢ [] → Holds (zones ++ one_band C n ∷ []) k) n b h (λ below full. in_longer zones (one_band C n) b (r.held b below full)) (λ full. here);
   longest = all_pairs_push (λ y z. z.first ≡ y.last + 1 → z.corners ≢ y.corners) zones (one_band C n) r.longest differs;
 }
   where
@@ -96,7 +96,7 @@ pub zone_grown : (S : ℕ → List Spot) (n : ℕ) (front : List Zone) (z : Zone
 zone_grown S n front z C r o e f = record {
   rise = all_pairs_push (λ y x. y.last < x.first) front (grown_to z n) (pairs_front (λ y x. y.last < x.first) front z r.rise) (pairs_last (λ y x. y.last < x.first) front z r.rise);
   each = All-append (IsRunOf S (n + 1)) front (grown_to z n ∷ []) (all_weaker S n front (all_front (IsRunOf S n) front z r.each)) (All-cons (IsRunOf S (n + 1)) (grown_to z n) [] run (All-nil (IsRunOf S (n + 1))));
-  held = λ b h. by_band {P = λ k. S k ≢ [] → Holds (front ++ grown_to z n ∷ []) k} n b h (λ below full. moved b (r.held b below full)) (λ full. here);
+  held = λ b h. by_band (λ k. S k ≢ [] → Holds (front ++ grown_to z n ∷ []) k) n b h (λ below full. moved b (r.held b below full)) (λ full. here);
   longest = all_pairs_push (λ y x. x.first ≡ y.last + 1 → x.corners ≢ y.corners) front (grown_to z n) (pairs_front (λ y x. x.first ≡ y.last + 1 → x.corners ≢ y.corners) front z r.longest) (pairs_last (λ y x. x.first ≡ y.last + 1 → x.corners ≢ y.corners) front z r.longest);
 }
   where
@@ -110,7 +110,7 @@ zone_grown S n front z C r o e f = record {
         outline b h =
             let p = h.from in
             let q = h.to in
-            by_band {P = λ k. z.first ≤ k → IsOutlineOf (S k) z.corners} n b (omega arith) (λ below from. last.outline b (record { from = from; to = omega (arith, e) })) (λ from. subst (IsOutlineOf (S n)) f o) p
+            by_band (λ k. z.first ≤ k → IsOutlineOf (S k) z.corners) n b (omega arith) (λ below from. last.outline b (record { from = from; to = omega (arith, e) })) (λ from. subst (IsOutlineOf (S n)) f o) p
 
     here : Holds (front ++ grown_to z n ∷ []) n
     here = let p = last.rises in record { zone = grown_to z n; member = last_in front (grown_to z n); holds = record { from = omega (arith, e); to = omega arith } }
@@ -140,6 +140,19 @@ none_goes_on S n front z C r differs =
         let p = last.rises in
         let q = last.below_count in
         absurd (omega (arith, e))
+
+-- the first zone
+pub first_zone : (S : ℕ → List Spot) (n : ℕ) (old popped new : List Zone) (C : List Spot) (y : Zone) → old ≡ [] → popped ≡ [] → new ≡ popped ++ y ∷ [] → y ≡ one_band C n → AreRunsOf S n old → IsOutlineOf (S n) C → C ≢ [] → AreRunsOf S (n + 1) new
+first_zone S n old popped new C y e p f g r o some =
+    let same : new ≡ [] ++ one_band C n ∷ [] = f ∙ ap (λ l. l ++ y ∷ []) p ∙ ap (λ z. [] ++ z ∷ []) g in
+    subst (AreRunsOf S (n + 1)) (sym same) (zone_added S n [] C (subst (AreRunsOf S n) e r) o some (All-nil (λ z. n ≡ z.last + 1 → C ≢ z.corners)))
+
+-- a zone after the last one
+pub next_zone : (S : ℕ → List Spot) (n : ℕ) (front middle new : List Zone) (z : Zone) (C : List Spot) (y : Zone) → middle ≡ front ++ z ∷ [] → new ≡ middle ++ y ∷ [] → y ≡ one_band C n
+    → (n ≡ z.last + 1 → C ≢ z.corners) → AreRunsOf S n (front ++ z ∷ []) → IsOutlineOf (S n) C → C ≢ [] → AreRunsOf S (n + 1) new
+next_zone S n front middle new z C y m f g differs r o some =
+    let same : new ≡ (front ++ z ∷ []) ++ one_band C n ∷ [] = f ∙ ap (λ l. l ++ y ∷ []) m ∙ ap (λ x. (front ++ z ∷ []) ++ x ∷ []) g in
+    subst (AreRunsOf S (n + 1)) (sym same) (zone_added S n (front ++ z ∷ []) C r o some (none_goes_on S n front z C r differs))
 
 -- no band, no zone
 pub no_zones : (S : ℕ → List Spot) → AreRunsOf S 0 []

@@ -5,5 +5,8 @@ mod Reached
 mod Running
 mod Nearness
 mod Outlines
+mod Polygons
 mod Pushes
+mod Assembled
 mod Grown
+mod SameSpots

@@ -51,7 +51,7 @@ spots_near grain margin from to facets g m n near =
     let low = spot_below grain margin far_low in
     let high = spot_above grain margin far_high in
     let all = all_flat (AroundPoint far_low far_high) (Between low high) (four_spots grain margin) (λ p a. of_four grain margin far_low far_high p (omega (arith, ints)) m a) (flat_map (facet_corners from to) facets)
-          (all_flat IsNearFacet (AroundPoint far_low far_high) (facet_corners from to) (λ f k. of_facet far_low far_high from to f (around_facet f k)) facets near) in
+    (all_flat IsNearFacet (AroundPoint far_low far_high) (facet_corners from to) (λ f k. of_facet far_low far_high from to f (around_facet f k)) facets near) in
     All-from_in IsNearSpot (spots grain margin (flat_map (facet_corners from to) facets)) (λ s i. near_between grain margin s g n (All-in (Between low high) (spots grain margin (flat_map (facet_corners from to) facets)) s all i))
 
 pub facet_near : (grain margin from to : ℤ) (f : Facet) → pos 10 ≤ℤ grain → pos 0 ≤ℤ margin → margin ≤ℤ pos 1_000 → IsNearFacet f
@@ -61,6 +61,12 @@ facet_near grain margin from to f g m n near =
     let high = spot_above grain margin far_high in
     let all = all_flat (AroundPoint far_low far_high) (Between low high) (four_spots grain margin) (λ p a. of_four grain margin far_low far_high p (omega (arith, ints)) m a) (facet_corners from to f) (of_facet far_low far_high from to f (around_facet f near)) in
     All-from_in IsNearSpot (spots grain margin (facet_corners from to f)) (λ s i. near_between grain margin s g n (All-in (Between low high) (spots grain margin (facet_corners from to f)) s all i))
+
+pub points_positive : (from to : ℤ) (facets : List Facet) → All IsNearFacet facets → All (λ p. pos 0 <ℤ p.d) (flat_map (facet_corners from to) facets)
+points_positive from to facets near =
+    let points = flat_map (facet_corners from to) facets in
+    let all = all_flat IsNearFacet (AroundPoint far_low far_high) (facet_corners from to) (λ f k. of_facet far_low far_high from to f (around_facet f k)) facets near in
+    All-from_in (λ p. pos 0 <ℤ p.d) points (λ p i. (All-in (AroundPoint far_low far_high) points p all i).over)
 
 pub near_enough : (S : List Spot) → All IsNearSpot S → All Corners.IsNear S
 near_enough S all = All-from_in Corners.IsNear S (λ s i. near s (All-in IsNearSpot S s all i))

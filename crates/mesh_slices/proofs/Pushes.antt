@@ -51,4 +51,3 @@ pub crossing_is : (height : ℤ) (p q : Point3) (x y d : ℤ) → p.z <ℤ heigh
     → x ≡ p.x *ℤ (q.z -ℤ height) +ℤ q.x *ℤ (height -ℤ p.z) → y ≡ p.y *ℤ (q.z -ℤ height) +ℤ q.y *ℤ (height -ℤ p.z) → d ≡ q.z -ℤ p.z
     → crossing_up height p q ≡ record { x = x; y = y; d = d } ∷ []
 crossing_is height p q x y d low high ex ey ed = rw (lt_is p.z height low, lt_is height q.z high, ex, ey, ed) refl
-

@@ -1,3 +1,5 @@
+ghost use Rattle.std.specs.Prelude.{◌≡◌};
+
 use std::alloc::AllocError;
 
 /// Why a mesh isn't sliced.
@@ -11,12 +13,16 @@ pub enum Slice {
 }
 
 impl From<AllocError> for Slice {
+    ghost from_gives = { λ _ e. e ≡ Slice.NoMemory };
+
     fn from(_: AllocError) -> Self {
         Slice::NoMemory
     }
 }
 
 impl From<seq_num::NoMemory> for Slice {
+    ghost from_gives = { λ _ e. e ≡ Slice.NoMemory };
+
     fn from(_: seq_num::NoMemory) -> Self {
         Slice::NoMemory
     }

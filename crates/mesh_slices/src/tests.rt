@@ -14,14 +14,27 @@ type Solid = (&'static [(u8, u8)], u8, u8, Option<(u8, u8)>);
 type Run = (u32, u32, &'static [(i64, i64)]);
 
 const SQUARE: &[(u8, u8)] = &[(0, 0), (2, 0), (2, 2), (0, 2)];
+
 const WIDE: &[(i64, i64)] = &[(-1, -1), (21, -1), (21, 21), (-1, 21)];
 
 // Solids, and the number of bands, the least and the greatest spot coordinates, and the zones of their mesh. The printer has a
 // grain of 1 mm, a margin of 1 mm and bands of 10 mm.
 static SLICED: [(&[Solid], u32, (i64, i64), (i64, i64), &[Run]); 7] = [
     // a cube, and a taller one whose middle band holds no vertex
-    (&[(SQUARE, 0, 2, None)], 2, (-1, -1), (21, 21), &[(0, 1, WIDE)]),
-    (&[(SQUARE, 0, 3, None)], 3, (-1, -1), (21, 21), &[(0, 2, WIDE)]),
+    (
+        &[(SQUARE, 0, 2, None)],
+        2,
+        (-1, -1),
+        (21, 21),
+        &[(0, 1, WIDE)],
+    ),
+    (
+        &[(SQUARE, 0, 3, None)],
+        3,
+        (-1, -1),
+        (21, 21),
+        &[(0, 2, WIDE)],
+    ),
     // a pyramid: the outline of its upper band is that of the crossings with the lower height
     (
         &[(SQUARE, 0, 2, Some((1, 1)))],
@@ -48,17 +61,30 @@ static SLICED: [(&[Solid], u32, (i64, i64), (i64, i64), &[Run]); 7] = [
     ),
     // a cube beside a smaller one that stands on its height
     (
-        &[(SQUARE, 0, 1, None), (&[(4, 4), (5, 4), (5, 5), (4, 5)], 1, 3, None)],
+        &[
+            (SQUARE, 0, 1, None),
+            (&[(4, 4), (5, 4), (5, 5), (4, 5)], 1, 3, None),
+        ],
         3,
         (-1, -1),
         (51, 51),
         &[
-            (0, 1, &[(-1, -1), (21, -1), (51, 39), (51, 51), (39, 51), (-1, 21)]),
+            (
+                0,
+                1,
+                &[(-1, -1), (21, -1), (51, 39), (51, 51), (39, 51), (-1, 21)],
+            ),
             (2, 2, &[(39, 39), (51, 39), (51, 51), (39, 51)]),
         ],
     ),
     // the greatest number of bands
-    (&[(SQUARE, 0, 200, None)], 200, (-1, -1), (21, 21), &[(0, 199, WIDE)]),
+    (
+        &[(SQUARE, 0, 200, None)],
+        200,
+        (-1, -1),
+        (21, 21),
+        &[(0, 199, WIDE)],
+    ),
 ];
 
 // Solids whose mesh isn't sliced, and why.
@@ -163,7 +189,9 @@ fn meshes_are_sliced(rt: HostRuntime) -> Result<(), Fail> {
     let printer = printer_of(rt.alloc())?;
     for (solids, bands, low, high, runs) in &SLICED {
         let mesh = mesh_of(rt.alloc(), solids)?.ok_or("too many facets")?;
-        let object = object(rt.alloc(), "solid", &mesh, &printer).ok().ok_or("refused")?;
+        let object = object(rt.alloc(), "solid", &mesh, &printer)
+            .ok()
+            .ok_or("refused")?;
         assert_eq!(rt; object.name.as_str(), "solid");
         assert_eq!(rt; object.bands, *bands);
         assert_eq!(rt; object.low, spot(*low));
@@ -185,7 +213,10 @@ fn meshes_are_refused(rt: HostRuntime) -> Result<(), Fail> {
     let printer = printer_of(rt.alloc())?;
     for (solids, why) in &REFUSED {
         let mesh = mesh_of(rt.alloc(), solids)?.ok_or("too many facets")?;
-        assert_eq!(rt; object(rt.alloc(), "solid", &mesh, &printer).err(), Some(*why));
+        assert_eq!(rt;
+            object(rt.alloc(), "solid", &mesh, &printer).err(),
+            Some(*why)
+        );
     }
     Ok(())
 }

@@ -1,4 +1,4 @@
-ghost use Rattle.std.specs.Prelude.{◌≡◌, ◌≢◌, ◌↔◌, ◌+◌, ◌<◌, ◌≤◌, ◌++◌, ◌∷◌, [], ℕ, List, pos, ◌+ℤ◌, ◌*ℤ◌, ◌≤ℤ◌, All, IsTrue, IfOk, OnOk, unsigned_abs};
+ghost use Rattle.std.specs.Prelude.{◌≡◌, ◌≢◌, ◌↔◌, ◌+◌, ◌<◌, ◌≤◌, ◌++◌, ◌∷◌, [], ℕ, List, pos, ◌+ℤ◌, ◌*ℤ◌, ◌≤ℤ◌, All, IsTrue, IfSome, IfNone, IfOk, OnOk, unsigned_abs};
 ghost use Rattle.seq_model.specs.Bands.{least_z};
 ghost use Rattle.seq_model.specs.Bounds.{IsNearFacet};
 ghost use Rattle.mesh_slices.specs.Objects.{IsOutlineOf, spots_in};
@@ -22,14 +22,24 @@ fn zone_at(corners: Vec<Spot>, band: u32) -> Zone
     }
 }
 
+fn same_corners(a: &[Spot], b: &[Spot]) -> bool
+    ensures { IsTrue result ↔ (a.now ≡ b.now) }
+{
+    a == b
+}
+
+// Whether a zone ends just below a band.
+fn ends_below(zone: &Zone, band: u32) -> bool
+    ensures { IsTrue result ↔ (band ≡ zone.now.last + 1) }
+{
+    band > 0 && band - 1 == zone.last
+}
+
 // Whether a zone ends just below a band and has its outline.
 fn goes_on(zone: &Zone, corners: &[Spot], band: u32) -> bool
     ensures { IsTrue result ↔ ((band ≡ zone.now.last + 1) × (corners.now ≡ zone.now.corners)) }
 {
-    if band == 0 || band - 1 != zone.last {
-        return false;
-    }
-    corners == zone.corners.as_slice()
+    ends_below(zone, band) && same_corners(corners, zone.corners.as_slice())
 }
 
 // Adds a band above the last zone: the zone grows if it ends there and has the same outline.
@@ -55,18 +65,34 @@ fn add_above(
     Ok(())
 }
 
+fn are_none(corners: &[Spot]) -> bool
+    ensures { IsTrue result ↔ (corners.now ≡ []) }
+{
+    corners.is_empty()
+}
+
+// Takes the last zone off.
+fn take_last(zones: &mut Vec<Zone>) -> Option<Zone>
+    ensures some { IfSome result (λ last. zones.old.items ≡ zones.new.items ++ last ∷ []) }
+    ensures none { IfNone result (zones.old.items ≡ []) }
+    ensures empty { IfNone result (zones.new.items ≡ []) }
+{
+    zones.pop()
+}
+
 // Adds a band to the zones of the bands below it. A band without outline lies in none.
 fn add_band(zones: &mut Vec<Zone>, corners: Vec<Spot>, band: u32) -> Result<(), AllocError>
     ensures { OnOk result ((S : ℕ → List Spot) → AreRunsOf S band zones.old.items → IsOutlineOf (S band) corners.items → AreRunsOf S (band + 1) zones.new.items) }
 {
-    if corners.is_empty() {
+    if are_none(corners.as_slice()) {
         return Ok(());
     }
-    let Some(below) = zones.pop() else {
+    let Some(below) = take_last(zones) else {
         zones.push(zone_at(corners, band))?;
         return Ok(());
     };
-    add_above(zones, below, corners, band)
+    add_above(zones, below, corners, band)?;
+    Ok(())
 }
 
 // How far a band lies above the bottom.
