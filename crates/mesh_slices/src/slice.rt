@@ -13,7 +13,9 @@ pub enum Slice {
 }
 
 impl From<AllocError> for Slice {
-    ghost from_gives = { λ _ e. e ≡ Slice.NoMemory };
+    ghost use Rattle.mesh_slices.specs.declared.slice.Slice.TheVariants.{NoMemory};
+
+    ghost from_gives = { λ _ e. e ≡ NoMemory };
 
     fn from(_: AllocError) -> Self {
         Slice::NoMemory
@@ -21,7 +23,9 @@ impl From<AllocError> for Slice {
 }
 
 impl From<seq_num::NoMemory> for Slice {
-    ghost from_gives = { λ _ e. e ≡ Slice.NoMemory };
+    ghost use Rattle.mesh_slices.specs.declared.slice.Slice.TheVariants.{NoMemory};
+
+    ghost from_gives = { λ _ e. e ≡ NoMemory };
 
     fn from(_: seq_num::NoMemory) -> Self {
         Slice::NoMemory
