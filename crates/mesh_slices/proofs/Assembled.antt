@@ -1,5 +1,5 @@
 -- The object of a mesh, from its zones and its extremes.
-use Rattle.std.proofs.Common.{◌≡◌, ◌≢◌, ℕ, suc, zero, ◌+◌, ◌<◌, ◌≤◌, ℤ, pos, neg_ℤ, ◌-ℤ◌, ◌+ℤ◌, ◌*ℤ◌, ◌≤ℤ◌, ◌<ℤ◌, List, [], ◌∷◌, length, All, Contains, refl, sym, subst, ap, ◌∙◌, arith, ◌⊎◌, inl, inr}
+use Rattle.std.proofs.Common.{◌≡◌, ◌≢◌, ℕ, suc, ◌<◌, ◌≤◌, ℤ, pos, neg_ℤ, ◌+ℤ◌, ◌*ℤ◌, ◌≤ℤ◌, ◌<ℤ◌, List, [], ◌∷◌, length, All, Contains, sym, subst, ◌∙◌, arith, inl, inr}
 use Rattle.std.proofs.lemmas.Int.{ints}
 use Rattle.std.specs.List.{AllPairs}
 use Rattle.integer_laws.specs.Members.{In, In-from_contains, Contains-from_in, All-in, All-from_in}
@@ -9,16 +9,16 @@ use Rattle.seq_model.specs.declared.mesh.Facet.{Facet}
 use Rattle.seq_model.specs.declared.printer.Part.{Part}
 use Rattle.seq_model.specs.declared.printer.Printer.{Printer}
 use Rattle.seq_model.specs.declared.printer.Spot.{Spot}
-use Rattle.seq_model.specs.Bands.{facet_corners, corners, least_z, height_of, band_count}
+use Rattle.seq_model.specs.Bands.{corners, least_z, height_of, band_count}
 use Rattle.seq_model.specs.Bounds.{IsNearFacet}
-use Rattle.seq_model.specs.Outlines.{spots, Within}
+use Rattle.seq_model.specs.Outlines.{Within}
 use Rattle.seq_model.specs.Scenes.{Between, SomeSpot, Spans, scene_of_files, description_of}
-use Rattle.seq_model.specs.Soundness.{IsSoundZone, AreSoundZones, AllCorners, AreExtremes, IsSound, IsNearSpot}
+use Rattle.seq_model.specs.Soundness.{IsSoundZone, AreSoundZones, AllCorners, AreExtremes, IsNearSpot}
 use Rattle.convex_outline.specs.Corners.{at_spot}
 use Rattle.convex_outline.specs.Means.{within_at_most}
 use Rattle.mesh_slices.specs.Objects.{spots_in, IsOutlineOf, HoldsBand, LiesInOneZone, AreZonesOf, IsObjectOf}
 use Rattle.mesh_slices.specs.Runs.{IsRunOf, Holds, AreRunsOf}
-use Rattle.mesh_slices.proofs.Grown.{no_spots, no_corners}
+use Rattle.mesh_slices.proofs.Grown.{no_corners}
 use Rattle.mesh_slices.proofs.Nearness.{spots_near, points_positive}
 use Rattle.mesh_slices.proofs.Outlines.{near_members}
 use Rattle.mesh_slices.proofs.Polygons.{outline_polygon}

@@ -1,8 +1,8 @@
 -- The spots of near facets are near.
-use Rattle.std.proofs.Common.{◌≡◌, ◌≤◌, ℤ, pos, neg_ℤ, ◌+ℤ◌, ◌-ℤ◌, ◌*ℤ◌, ◌≤ℤ◌, ◌<ℤ◌, List, All, Contains, arith, unsigned_abs, flat_map}
+use Rattle.std.proofs.Common.{ℤ, pos, neg_ℤ, ◌*ℤ◌, ◌≤ℤ◌, ◌<ℤ◌, List, All, arith, flat_map}
 use Rattle.std.proofs.lemmas.Int.{ints}
-use Rattle.integer_laws.specs.Members.{In, In-from_contains, All-in, All-from_in}
-use Rattle.integer_laws.specs.Quotients.{floor, ceil, floor_is, least_quotient}
+use Rattle.integer_laws.specs.Members.{All-in, All-from_in}
+use Rattle.integer_laws.specs.Quotients.{floor, floor_is, least_quotient}
 use Rattle.seq_model.specs.declared.mesh.Point3.{Point3}
 use Rattle.seq_model.specs.declared.mesh.Facet.{Facet}
 use Rattle.seq_model.specs.declared.printer.Spot.{Spot}

@@ -1,5 +1,5 @@
 -- The corners of an outline with area are a polygon, and spots round corner points have area.
-use Rattle.std.proofs.Common.{◌≡◌, ◌≢◌, ℕ, suc, zero, ◌+◌, ◌<◌, ◌≤◌, ◌%◌, ℤ, pos, ◌-ℤ◌, ◌+ℤ◌, ◌*ℤ◌, ◌≤ℤ◌, ◌<ℤ◌, List, [], ◌∷◌, length, All, Contains, refl, sym, subst, ap, ◌∙◌, arith, ⊎_elim, ◌⊎◌, inl, inr}
+use Rattle.std.proofs.Common.{◌≡◌, ◌≢◌, ℕ, suc, zero, ◌+◌, ◌<◌, ◌≤◌, ◌%◌, ℤ, pos, ◌-ℤ◌, ◌*ℤ◌, ◌≤ℤ◌, ◌<ℤ◌, List, [], ◌∷◌, length, All, Contains, refl, sym, subst, ap, ◌∙◌, arith, ⊎_elim, inl, inr}
 use Rattle.std.proofs.Math.Nat.{mod-eq_of_lt, mod_self}
 use Rattle.std.proofs.lemmas.Bool.{cases_lt}
 use Rattle.std.proofs.lemmas.Int.{ints}
@@ -8,11 +8,11 @@ use Rattle.integer_laws.specs.Order.{lt_from, mul_positive}
 use Rattle.integer_laws.specs.Ring.{expand}
 use Rattle.integer_laws.specs.Quotients.{floor_le_ceil}
 use Rattle.seq_model.specs.declared.printer.Spot.{Spot}
-use Rattle.seq_model.specs.Outlines.{below, above, four_spots, spots, Inner, Within}
+use Rattle.seq_model.specs.Outlines.{below, above, spots, Within}
 use Rattle.seq_model.specs.Points.{Point}
 use Rattle.seq_model.specs.Soundness.{ComesFirst, corner_at, IsPolygon}
 use Rattle.convex_outline.specs.Area.{three_of_area}
-use Rattle.convex_outline.specs.Corners.{turn, at_spot, IsBefore, StartsLeast, LeftAbout, TurnsLeft, AreCorners, HasArea}
+use Rattle.convex_outline.specs.Corners.{turn, at_spot, IsBefore, LeftAbout, TurnsLeft, AreCorners, HasArea}
 use Rattle.convex_outline.specs.Keeping.{Hull}
 use Rattle.convex_outline.specs.Vectors.{turn_round}
 use Rattle.mesh_slices.specs.Objects.{IsOutlineOf}
