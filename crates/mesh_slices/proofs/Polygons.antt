@@ -13,9 +13,9 @@ use Rattle.seq_model.specs.Points.{Point}
 use Rattle.seq_model.specs.Soundness.{ComesFirst, corner_at, IsPolygon}
 use Rattle.convex_outline.specs.Area.{three_of_area}
 use Rattle.convex_outline.specs.Corners.{turn, at_spot, IsBefore, LeftAbout, TurnsLeft, AreCorners, HasArea}
-use Rattle.convex_outline.specs.Keeping.{Hull}
 use Rattle.convex_outline.specs.Vectors.{turn_round}
 use Rattle.mesh_slices.specs.Objects.{IsOutlineOf}
+use Rattle.mesh_slices.specs.Unique.{hull_of_outline}
 
 -- ---- any three corners turn left, by their numbers
 two_about : (a : Spot) (bs : List Spot) → LeftAbout a bs → (j k : ℕ) → j < k → k < length bs → pos 0 <ℤ turn a (corner_at bs j) (corner_at bs k)
@@ -110,17 +110,6 @@ area_of_four grain margin p rest g m d =
 spots_have_area : (grain margin : ℤ) (points : List Point) → pos 0 <ℤ grain → pos 1 ≤ℤ margin → All (λ p. pos 0 <ℤ p.d) points → spots grain margin points ≢ [] → HasArea (spots grain margin points)
 spots_have_area grain margin [] g m positive some = absurd (some refl)
 spots_have_area grain margin (p ∷ ps) g m positive some = area_of_four grain margin p _ g m (All-in (λ q. pos 0 <ℤ q.d) (p ∷ ps) p positive (inl refl))
-
-hull_of_outline : (S C : List Spot) → IsOutlineOf S C → Hull S C
-hull_of_outline S C o = record {
-  corners = o.corners;
-  keeps = record {
-    members = λ s i. In-from_contains S s (All-in (Contains S) C s o.members i);
-    within = λ s i. All-in (λ t. Within C (at_spot t)) S s o.within i;
-    to_list = λ q m. (o.inner q).0 m;
-    to_corners = λ q m. (o.inner q).1 m;
-  };
-}
 
 pub outline_polygon : (grain margin : ℤ) (points : List Point) (C : List Spot) → pos 0 <ℤ grain → pos 1 ≤ℤ margin → All (λ p. pos 0 <ℤ p.d) points → spots grain margin points ≢ [] → IsOutlineOf (spots grain margin points) C → IsPolygon C
 outline_polygon grain margin points C g m positive some o =

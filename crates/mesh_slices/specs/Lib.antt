@@ -4,3 +4,4 @@ pub mod Objects
 pub mod Ranges
 pub mod Runs
 pub mod Vertices
+pub mod Unique
