@@ -7,7 +7,7 @@
 use Rattle.std.proofs.Common.{◌≡◌, ◌<◌, ◌≤◌, List, [], ◌∷◌, length, All, Contains, refl, sym, subst, ap, ap₂, ◌∙◌, arith, ℤ, pos, neg_ℤ, ◌+ℤ◌, ◌-ℤ◌, ◌*ℤ◌, ◌≤ℤ◌, ◌<ℤ◌, ◌⊎◌, inl, inr}
 use Rattle.std.proofs.lemmas.Int.{ints, by_lt_z}
 use Rattle.integer_laws.specs.Members.{In, In-from_contains, All-in, All-from_in}
-use Rattle.integer_laws.specs.Order.{le_from, lt_from, same_from, add_same, mul_same, cancel_same}
+use Rattle.integer_laws.specs.Order.{same_from, add_same, mul_same, cancel_same}
 use Rattle.integer_laws.specs.Ring.{expand}
 use Rattle.seq_model.specs.declared.printer.Spot.{Spot}
 use Rattle.seq_model.specs.Outlines.{Within}
@@ -17,7 +17,7 @@ use Rattle.convex_outline.specs.Keeping.{Hull}
 use Rattle.convex_outline.specs.Laws.{polygon_turns, polygon_sees, seen_within, area_of_three, ends_of_line, no_mean}
 use Rattle.convex_outline.specs.Means.{within_at_most}
 use Rattle.convex_outline.specs.Polygons.{last_of, next_of, Steps, TurnsAlong, Seen}
-use Rattle.convex_outline.specs.Vectors.{turn_start, turn_end, turn_flipped}
+use Rattle.convex_outline.specs.Vectors.{turn_start, turn_end, turn_on, turn_from}
 use Rattle.mesh_slices.specs.Objects.{IsOutlineOf}
 
 -- ---- on one line
@@ -36,6 +36,11 @@ meet : (a b : Spot) → (b ≡ a) ⊎ IsBefore a b → (a ≡ b) ⊎ IsBefore b 
 meet a b (inl e) r = sym e
 meet a b (inr h) (inl e) = e
 meet a b (inr h) (inr k) = absurd (not_both a b h k)
+
+meet_down : (a b : Spot) → (b ≡ a) ⊎ IsBefore b a → (a ≡ b) ⊎ IsBefore a b → a ≡ b
+meet_down a b (inl e) r = sym e
+meet_down a b (inr h) (inl e) = e
+meet_down a b (inr h) (inr k) = absurd (not_both b a h k)
 
 of_nothing : {X : Type 0} (s : Spot) → Contains [] s → X
 of_nothing s c = absurd (In-from_contains [] s c)
@@ -59,7 +64,7 @@ ends_once S (a ∷ b ∷ []) (e ∷ []) c d =
     absurd (never_before e (subst (λ s. IsBefore s e) x (subst (λ s. IsBefore a s) y c.0)))
 ends_once S (a ∷ b ∷ []) (e ∷ f ∷ []) c d =
     let first = meet a e (All-in (IsBetween a b) S e c.3 (In-from_contains S e d.1)).from (All-in (IsBetween e f) S a d.3 (In-from_contains S a c.1)).from in
-    let last = meet f b (All-in (IsBetween e f) S b d.3 (In-from_contains S b c.2)).to (All-in (IsBetween a b) S f c.3 (In-from_contains S f d.2)).to in
+    let last = meet_down f b (All-in (IsBetween e f) S b d.3 (In-from_contains S b c.2)).to (All-in (IsBetween a b) S f c.3 (In-from_contains S f d.2)).to in
     ap₂ (λ x y. x ∷ y ∷ []) first (sym last)
 ends_once S (a ∷ b ∷ []) (e ∷ f ∷ g ∷ D) c d = absurd d
 ends_once S (a ∷ b ∷ e ∷ C) D c d = absurd c
@@ -84,12 +89,11 @@ pointed S c u (v ∷ w ∷ ws) z s t l (inr i) = pointed S c v (w ∷ ws) z s.1 
 abbrev depth : Spot → Spot → Spot → Spot → ℤ
 depth p c n s = turn p c s +ℤ turn c n s
 
--- a spot that lies on both ways is the corner
-on_both : (px py cx cy nx ny sx sy : ℤ) → pos 0 <ℤ ((cx -ℤ px) *ℤ (ny -ℤ py) -ℤ (cy -ℤ py) *ℤ (nx -ℤ px))
-    → (cx -ℤ px) *ℤ (sy -ℤ py) -ℤ (cy -ℤ py) *ℤ (sx -ℤ px) ≡ pos 0 → (nx -ℤ cx) *ℤ (sy -ℤ cy) -ℤ (ny -ℤ cy) *ℤ (sx -ℤ cx) ≡ pos 0 → (sx ≡ cx) × (sy ≡ cy)
-on_both px py cx cy nx ny sx sy h e f = (
-  cancel_same ((cx -ℤ px) *ℤ (ny -ℤ py) -ℤ (cy -ℤ py) *ℤ (nx -ℤ px)) h (same_from (add_same (mul_same (nx -ℤ cx) e) (mul_same (px -ℤ cx) f)) (simp expand (omega (arith, ints)))),
-  cancel_same ((cx -ℤ px) *ℤ (ny -ℤ py) -ℤ (cy -ℤ py) *ℤ (nx -ℤ px)) h (same_from (add_same (mul_same (ny -ℤ cy) e) (mul_same (py -ℤ cy) f)) (simp expand (omega (arith, ints)))),
+-- what is on one line with two vectors that aren't on one line is nothing
+nothing_left : (ux uy vx vy wx wy : ℤ) → pos 0 <ℤ (ux *ℤ vy -ℤ uy *ℤ vx) → ux *ℤ wy -ℤ uy *ℤ wx ≡ pos 0 → vx *ℤ wy -ℤ vy *ℤ wx ≡ pos 0 → (wx ≡ pos 0) × (wy ≡ pos 0)
+nothing_left ux uy vx vy wx wy h e f = (
+  cancel_same (ux *ℤ vy -ℤ uy *ℤ vx) h (same_from (add_same (mul_same vx e) (mul_same (neg_ℤ ux) f)) (simp expand (omega (arith, ints)))),
+  cancel_same (ux *ℤ vy -ℤ uy *ℤ vx) h (same_from (add_same (mul_same vy e) (mul_same (neg_ℤ uy) f)) (simp expand (omega (arith, ints)))),
 )
 
 abbrev spot : ℤ → ℤ → Spot
@@ -99,21 +103,42 @@ corner_itself : (p c n s : Spot) → pos 0 <ℤ turn p c n → pos 0 ≤ℤ turn
 corner_itself p c n s h a b d =
     let e : turn p c s ≡ pos 0 = omega (arith, ints) in
     let f : turn c n s ≡ pos 0 = omega (arith, ints) in
-    let both = on_both p.x p.y c.x c.y n.x n.y s.x s.y h e f in
-    ap₂ spot both.0 both.1
+    let none = nothing_left (c.x -ℤ p.x) (c.y -ℤ p.y) (n.x -ℤ c.x) (n.y -ℤ c.y) (s.x -ℤ c.x) (s.y -ℤ c.y) (subst (λ t. pos 0 <ℤ t) (turn_on p c n) h) (sym (turn_on p c s) ∙ e) (sym (turn_from c n s) ∙ f) in
+    let x = none.0 in
+    let y = none.1 in
+    ap₂ spot (omega (arith, ints, x)) (omega (arith, ints, y))
 
-abbrev level : Spot → Spot → Spot → ℤ
-level p c n = ((c.y -ℤ p.y) *ℤ p.x -ℤ (c.x -ℤ p.x) *ℤ p.y) +ℤ ((n.y -ℤ c.y) *ℤ c.x -ℤ (n.x -ℤ c.x) *ℤ c.y)
+-- a way's turn to a spot is a level less the spot's height
+abbrev east : Spot → Spot → ℤ
+east u v = v.y -ℤ u.y
+
+abbrev north : Spot → Spot → ℤ
+north u v = u.x -ℤ v.x
+
+abbrev level : Spot → Spot → ℤ
+level u v = east u v *ℤ u.x +ℤ north u v *ℤ u.y
+
+turn_level : (u v s : Spot) → turn u v s ≡ level u v -ℤ (east u v *ℤ s.x +ℤ north u v *ℤ s.y)
+turn_level u v s = simp expand (omega (arith, ints))
+
+two_heights : (a b c d x y : ℤ) → (a +ℤ c) *ℤ x +ℤ (b +ℤ d) *ℤ y ≡ (a *ℤ x +ℤ b *ℤ y) +ℤ (c *ℤ x +ℤ d *ℤ y)
+two_heights a b c d x y = simp expand (omega (arith, ints))
+
+far_in : (a b c d x y k l t u : ℤ) → t ≡ k -ℤ (a *ℤ x +ℤ b *ℤ y) → u ≡ l -ℤ (c *ℤ x +ℤ d *ℤ y) → pos 1 ≤ℤ (t +ℤ u) → ((a +ℤ c) *ℤ x +ℤ (b +ℤ d) *ℤ y) ≤ℤ ((k +ℤ l) -ℤ pos 1)
+far_in a b c d x y k l t u e f h = rw (two_heights a b c d x y) (omega (arith, ints))
+
+not_far : (a b c d x y k l : ℤ) → pos 0 ≡ k -ℤ (a *ℤ x +ℤ b *ℤ y) → pos 0 ≡ l -ℤ (c *ℤ x +ℤ d *ℤ y) → ((a +ℤ c) *ℤ x +ℤ (b +ℤ d) *ℤ y) ≤ℤ (((k +ℤ l) -ℤ pos 1) *ℤ pos 1) → ⊥
+not_far a b c d x y k l e f m = never (subst (λ v. v ≤ℤ (((k +ℤ l) -ℤ pos 1) *ℤ pos 1)) (two_heights a b c d x y) m)
+  where
+    never : ((a *ℤ x +ℤ b *ℤ y) +ℤ (c *ℤ x +ℤ d *ℤ y)) ≤ℤ (((k +ℤ l) -ℤ pos 1) *ℤ pos 1) → ⊥
+    never h = absurd (omega (arith, ints))
 
 -- what is a corner isn't within spots that all lie inside its two ways
 deep : (p c n : Spot) (D : List Spot) → ((d : Spot) → In d D → pos 1 ≤ℤ depth p c n d) → Within D (at_spot c) → ⊥
 deep p c n D h w =
-    let m = within_at_most ((c.y -ℤ p.y) +ℤ (n.y -ℤ c.y)) ((p.x -ℤ c.x) +ℤ (c.x -ℤ n.x)) (level p c n -ℤ pos 1) D (at_spot c) (λ d i. below p c n d (h d i)) w in
-    let never : pos 1 ≤ℤ pos 0 = le_from m (simp expand (omega (arith, ints))) in
-    absurd (omega (arith, ints, never))
-  where
-    below : (p c n d : Spot) → pos 1 ≤ℤ depth p c n d → (((c.y -ℤ p.y) +ℤ (n.y -ℤ c.y)) *ℤ d.x +ℤ ((p.x -ℤ c.x) +ℤ (c.x -ℤ n.x)) *ℤ d.y) ≤ℤ (level p c n -ℤ pos 1)
-    below p c n d h = le_from h (simp expand (omega (arith, ints)))
+    not_far (east p c) (north p c) (east c n) (north c n) c.x c.y (level p c) (level c n) (sym (turn_end p c) ∙ turn_level p c c) (sym (turn_start c n) ∙ turn_level c n c)
+    (within_at_most (east p c +ℤ east c n) (north p c +ℤ north c n) ((level p c +ℤ level c n) -ℤ pos 1) D (at_spot c)
+      (λ d i. far_in (east p c) (north p c) (east c n) (north c n) d.x d.y (level p c) (level c n) (turn p c d) (turn c n d) (turn_level p c d) (turn_level c n d) (h d i)) w)
 
 record Shallow (p c n : Spot) (D : List Spot) : Type 0 where
   spot : Spot
