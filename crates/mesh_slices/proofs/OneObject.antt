@@ -1,5 +1,5 @@
 -- A mesh has one object.
-use Rattle.std.proofs.Common.{◌≡◌, ◌≢◌, ℕ, suc, zero, ◌+◌, ◌<◌, ◌≤◌, ℤ, pos, ◌≤ℤ◌, List, [], ◌∷◌, length, All, Contains, refl, sym, subst, ap, ap₂, ◌∙◌, arith, ⊎_elim, ◌⊎◌, inl, inr}
+use Rattle.std.proofs.Common.{◌≡◌, ◌≢◌, ℕ, ◌+◌, ◌<◌, ◌≤◌, ℤ, ◌≤ℤ◌, List, [], ◌∷◌, length, All, Contains, refl, sym, subst, ap, ap₂, ◌∙◌, arith, ⊎_elim, inl, inr}
 use Rattle.std.proofs.lemmas.Bool.{cases_lt}
 use Rattle.std.proofs.lemmas.Int.{ints}
 use Rattle.std.specs.List.{AllPairs}
@@ -7,12 +7,11 @@ use Rattle.integer_laws.specs.Members.{In, In-from_contains, All-in, All-from_in
 use Rattle.seq_model.specs.declared.job.Object.{Object}
 use Rattle.seq_model.specs.declared.job.Zone.{Zone}
 use Rattle.seq_model.specs.declared.mesh.Facet.{Facet}
-use Rattle.seq_model.specs.declared.printer.Part.{Part}
 use Rattle.seq_model.specs.declared.printer.Printer.{Printer}
 use Rattle.seq_model.specs.declared.printer.Spot.{Spot}
 use Rattle.seq_model.specs.Scenes.{Scene, Between, Spans, scene_of_files, description_of}
 use Rattle.seq_model.specs.Soundness.{IsSoundZone, AreSoundZones}
-use Rattle.mesh_slices.specs.Objects.{spots_in, IsOutlineOf, HoldsBand, LiesInOneZone, AreZonesOf, IsObjectOf}
+use Rattle.mesh_slices.specs.Objects.{spots_in, IsOutlineOf, HoldsBand, AreZonesOf, IsObjectOf}
 use Rattle.mesh_slices.specs.Runs.{IsRunOf, Holds, AreRunsOf}
 use Rattle.mesh_slices.specs.Unique.{one_outline}
 use Rattle.mesh_slices.proofs.Assembled.{Rise, first_pairs, rest_pairs}

@@ -1,18 +1,18 @@
 -- The corners of an outline with area are a polygon, and spots round corner points have area.
-use Rattle.std.proofs.Common.{◌≡◌, ◌≢◌, ℕ, suc, zero, ◌+◌, ◌<◌, ◌≤◌, ◌%◌, ℤ, pos, ◌-ℤ◌, ◌*ℤ◌, ◌≤ℤ◌, ◌<ℤ◌, List, [], ◌∷◌, length, All, Contains, refl, sym, subst, ap, ◌∙◌, arith, ⊎_elim, inl, inr}
+use Rattle.std.proofs.Common.{◌≡◌, ◌≢◌, ℕ, suc, zero, ◌+◌, ◌<◌, ◌≤◌, ◌%◌, ℤ, pos, ◌-ℤ◌, ◌*ℤ◌, ◌≤ℤ◌, ◌<ℤ◌, List, [], ◌∷◌, length, All, refl, sym, subst, ap, ◌∙◌, arith, ⊎_elim, inl, inr}
 use Rattle.std.proofs.Math.Nat.{mod-eq_of_lt, mod_self}
 use Rattle.std.proofs.lemmas.Bool.{cases_lt}
 use Rattle.std.proofs.lemmas.Int.{ints}
-use Rattle.integer_laws.specs.Members.{In, In-from_contains, All-in, All-from_in}
+use Rattle.integer_laws.specs.Members.{In, All-in, All-from_in}
 use Rattle.integer_laws.specs.Order.{lt_from, mul_positive}
 use Rattle.integer_laws.specs.Ring.{expand}
 use Rattle.integer_laws.specs.Quotients.{floor_le_ceil}
 use Rattle.seq_model.specs.declared.printer.Spot.{Spot}
-use Rattle.seq_model.specs.Outlines.{below, above, spots, Within}
+use Rattle.seq_model.specs.Outlines.{below, above, spots}
 use Rattle.seq_model.specs.Points.{Point}
 use Rattle.seq_model.specs.Soundness.{ComesFirst, corner_at, IsPolygon}
 use Rattle.convex_outline.specs.Area.{three_of_area}
-use Rattle.convex_outline.specs.Corners.{turn, at_spot, IsBefore, LeftAbout, TurnsLeft, AreCorners, HasArea}
+use Rattle.convex_outline.specs.Corners.{turn, IsBefore, LeftAbout, TurnsLeft, AreCorners, HasArea}
 use Rattle.convex_outline.specs.Vectors.{turn_round}
 use Rattle.mesh_slices.specs.Objects.{IsOutlineOf}
 use Rattle.mesh_slices.specs.Unique.{hull_of_outline}

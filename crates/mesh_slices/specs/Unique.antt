@@ -4,19 +4,19 @@
 --   corner_of_both            a corner of one outline of a list is a corner of another one
 --   same_order                corners that are the same are the same list
 --   one_outline               two outlines of a list are equal
-use Rattle.std.proofs.Common.{◌≡◌, ◌<◌, ◌≤◌, List, [], ◌∷◌, length, All, Contains, refl, sym, subst, ap, ap₂, ◌∙◌, arith, ℤ, pos, neg_ℤ, ◌+ℤ◌, ◌-ℤ◌, ◌*ℤ◌, ◌≤ℤ◌, ◌<ℤ◌, ◌⊎◌, inl, inr}
+use Rattle.std.proofs.Common.{◌≡◌, ◌<◌, ◌≤◌, List, [], ◌∷◌, length, Contains, refl, sym, subst, ap, ap₂, ◌∙◌, arith, ℤ, pos, neg_ℤ, ◌+ℤ◌, ◌-ℤ◌, ◌*ℤ◌, ◌≤ℤ◌, ◌<ℤ◌, ◌⊎◌, inl, inr}
 use Rattle.std.proofs.lemmas.Int.{ints, by_lt_z}
-use Rattle.integer_laws.specs.Members.{In, In-from_contains, All-in, All-from_in}
+use Rattle.integer_laws.specs.Members.{In, In-from_contains, All-in}
 use Rattle.integer_laws.specs.Order.{same_from, add_same, mul_same, cancel_same}
 use Rattle.integer_laws.specs.Ring.{expand}
 use Rattle.seq_model.specs.declared.printer.Spot.{Spot}
 use Rattle.seq_model.specs.Outlines.{Within}
 use Rattle.convex_outline.specs.Area.{three_of_area}
-use Rattle.convex_outline.specs.Corners.{turn, at_spot, IsBefore, IsBetween, AreEnds, AreCorners, StartsLeast, LeftAbout, TurnsLeft, HasArea}
+use Rattle.convex_outline.specs.Corners.{turn, at_spot, IsBefore, IsBetween, AreEnds, AreCorners, LeftAbout, HasArea}
 use Rattle.convex_outline.specs.Keeping.{Hull}
-use Rattle.convex_outline.specs.Laws.{polygon_turns, polygon_sees, seen_within, area_of_three, ends_of_line, no_mean}
+use Rattle.convex_outline.specs.Laws.{polygon_turns, polygon_sees, seen_within, area_of_three, ends_of_line}
 use Rattle.convex_outline.specs.Means.{within_at_most}
-use Rattle.convex_outline.specs.Polygons.{last_of, next_of, Steps, TurnsAlong, Seen}
+use Rattle.convex_outline.specs.Polygons.{last_of, Steps, TurnsAlong, Seen}
 use Rattle.convex_outline.specs.Vectors.{turn_start, turn_end, turn_on, turn_from}
 use Rattle.mesh_slices.specs.Objects.{IsOutlineOf}
 
@@ -138,7 +138,7 @@ deep : (p c n : Spot) (D : List Spot) → ((d : Spot) → In d D → pos 1 ≤�
 deep p c n D h w =
     not_far (east p c) (north p c) (east c n) (north c n) c.x c.y (level p c) (level c n) (sym (turn_end p c) ∙ turn_level p c c) (sym (turn_start c n) ∙ turn_level c n c)
     (within_at_most (east p c +ℤ east c n) (north p c +ℤ north c n) ((level p c +ℤ level c n) -ℤ pos 1) D (at_spot c)
-      (λ d i. far_in (east p c) (north p c) (east c n) (north c n) d.x d.y (level p c) (level c n) (turn p c d) (turn c n d) (turn_level p c d) (turn_level c n d) (h d i)) w)
+    (λ d i. far_in (east p c) (north p c) (east c n) (north c n) d.x d.y (level p c) (level c n) (turn p c d) (turn c n d) (turn_level p c d) (turn_level c n d) (h d i)) w)
 
 record Shallow (p c n : Spot) (D : List Spot) : Type 0 where
   spot : Spot
