@@ -1,0 +1,3 @@
+pub mod Edges
+pub mod Volumes
+pub mod Verdicts
