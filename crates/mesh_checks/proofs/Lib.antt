@@ -1,0 +1,4 @@
+pub mod Same
+pub mod Sums
+pub mod Counts
+pub mod Steps

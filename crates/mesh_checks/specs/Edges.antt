@@ -7,7 +7,8 @@
 --   excess es e           how often it stands there more often than e turned
 --   IsOnce es             no edge stands twice in es
 --   each_once es          the different edges of es
---   open_edges facets     the excess, summed over the different edges of the facets
+--   open_in es            the excess, summed over the different edges of es
+--   open_edges facets     the same for the edges of the facets
 --   SumIsOpen facets      it is the sum over all pairs of points, in any list that has each pair once
 use Rattle.std.specs.Prelude.{◌≡◌, ◌≢◌, ◌<◌, ◌-◌, ℕ, Bool, ◌&&◌, List, [], ◌∷◌, if◌then◌else◌, AllPairs, Contains, count_by, sum_by}
 use Rattle.std.specs.List.{flat_map, list_any}
@@ -54,8 +55,11 @@ each_once [] = []
 each_once (e ∷ es) = if list_any (same_edge e) es then each_once es else e ∷ each_once es
 
 -- the sum, over the different edges, of how often each stands more often than its reverse
+abbrev pub open_in : List Edge → ℕ
+open_in es = sum_by (excess es) (each_once es)
+
 abbrev pub open_edges : List Facet → ℕ
-open_edges facets = sum_by (excess (edges facets)) (each_once (edges facets))
+open_edges facets = open_in (edges facets)
 
 -- the sum over all ordered pairs of points: those that no list has may have no excess
 abbrev pub SumIsOpen : List Facet → Type 0

@@ -13,6 +13,9 @@ ghost use Rattle.mesh_checks.specs.Edges.{open_edges, SumIsOpen};
 ghost use Rattle.mesh_checks.specs.Volumes.{six_volume};
 ghost use Rattle.mesh_checks.specs.Verdicts.{IsClosedOutward, IsDue};
 
+mod volume;
+mod ways;
+
 use seq_model::Mesh;
 use seq_num::NoMemory;
 use std::alloc::Global;
@@ -49,9 +52,12 @@ pub fn look(alloc: Global, mesh: &Mesh) -> Result<Notes, NoMemory>
     ensures volume { IfOk result (λ notes. notes.six_volume ≡ six_volume mesh.now.facets) }
     ensures dropped { IfOk result (λ notes. notes.dropped ≡ mesh.now.dropped) }
 {
-    let _ = alloc;
-    let _ = mesh;
-    Err(NoMemory)
+    let facets = mesh.facets.as_slice();
+    Ok(Notes {
+        open_edges: ways::count_open(alloc, facets)?,
+        six_volume: volume::sum_volumes(facets),
+        dropped: mesh.dropped,
+    })
 }
 
 /// Open edges don't depend on which pairs of points the sum goes over, as long as each stands once and none with an excess is missing.
