@@ -12,8 +12,8 @@
 --   all_runs ws        the same from the first way on
 use Rattle.std.specs.Prelude.{◌≡◌, ◌+◌, ℕ, ℤ, pos, negsuc, ◌+ℤ◌, Bool, true, false, List, [], ◌∷◌, if◌then◌else◌, unsigned_abs}
 use Rattle.std.specs.List.{flat_map}
-use Rattle.std.specs.Ordering.{int_cmp, is_eq, is_lt, ordering_then, match_ordering, Less}
-use Rattle.std.specs.Ordering.{Ordering}
+use Rattle.std.specs.Ordering.{int_cmp, is_eq, is_lt, ordering_then, match_ordering}
+use Rattle.std.proofs.Common.{Ordering, Less}
 use Rattle.seq_model.specs.declared.mesh.Point3.{Point3}
 use Rattle.mesh_checks.specs.declared.ways.Way.{Way}
 use Rattle.mesh_checks.specs.Edges.{Edge, edge}
@@ -55,7 +55,7 @@ sign_of w = if w.forward then pos 1 else negsuc 0
 -- a way with other ends begins the next run
 abbrev pub runs : Way → ℤ → List Way → ℕ
 runs u k [] = unsigned_abs k
-runs u k (w ∷ ws) = if is_eq (ends_cmp u w) then runs u (k +ℤ sign_of w) ws else unsigned_abs k + runs w (sign_of w) ws
+runs u k (w ∷ ws) = if is_eq (ends_cmp u w) then runs u (k +ℤ sign_of w) ws else unsigned_abs k + runs w (pos 0 +ℤ sign_of w) ws
 
 abbrev pub all_runs : List Way → ℕ
 all_runs [] = 0

@@ -1,4 +1,5 @@
-ghost use Rattle.std.specs.Prelude.{◌≡◌, ◌≤◌, ◌++◌, length, IfOk, OnOk, IsPermutation};
+ghost use Rattle.std.specs.Prelude.{◌≡◌, ◌≤◌, ◌+◌, ◌+ℤ◌, ◌++◌, unsigned_abs, length, IfOk, OnOk, IsPermutation};
+ghost use Rattle.std.specs.Ordering.{is_eq};
 ghost use Rattle.mesh_checks.specs.Edges.{edge, edges, open_edges};
 ghost use Rattle.mesh_checks.specs.Runs.{point_cmp, ends_cmp, way_of, ways, sign_of, all_runs, IsAscending};
 
@@ -27,6 +28,12 @@ fn compare_ends(v: &Way, w: &Way) -> Ordering
         Ordering::Equal => compare_points(&v.high, &w.high),
         decided => decided,
     }
+}
+
+fn have_same_ends(v: &Way, w: &Way) -> bool
+    ensures { result ≡ is_eq (ends_cmp v.now w.now) }
+{
+    compare_ends(v, w).is_eq()
 }
 
 fn add_way(found: &mut Vec<Way>, from: Point3, to: Point3) -> Result<(), AllocError>
@@ -73,10 +80,13 @@ fn ascending(mut found: Vec<Way>) -> Vec<Way>
     found
 }
 
-fn sign(way: &Way) -> i64
-    ensures { result ≡ sign_of way.now }
+// The balance of a run after one more way.
+fn balance_with(balance: i64, way: &Way) -> i64
+    requires { unsigned_abs balance ≤ 600_000 }
+    ensures value { result ≡ balance +ℤ sign_of way.now }
+    ensures size { unsigned_abs result ≤ unsigned_abs balance + 1 }
 {
-    if way.forward { 1 } else { -1 }
+    if way.forward { balance + 1 } else { balance - 1 }
 }
 
 // Goes through the runs of one edge: those forward and those back cancel each other, and what is left is open.
@@ -91,12 +101,12 @@ fn count_runs(ways: &[Way]) -> u64
     let mut balance = 0i64;
     let mut open = 0u64;
     for way in ways {
-        if compare_ends(&run, way) != Ordering::Equal {
+        if !have_same_ends(&run, way) {
             open += balance.unsigned_abs();
             balance = 0;
             run = *way;
         }
-        balance += sign(way);
+        balance = balance_with(balance, way);
     }
     open + balance.unsigned_abs()
 }
