@@ -8,7 +8,7 @@
 --   IsUpright w        the lower end is before the upper one
 --   IsAscending ws     no way is before the one that stands ahead of it
 --   sign_of w          1 for a way from the lower end to the upper one, -1 for one back
---   runs u k ws        the sizes of the balances of the runs, the first being a run of u with balance k already
+--   runs u k ws        the sizes of the balances of the runs, the first having u and the balance k already
 --   all_runs ws        the same from the first way on
 use Rattle.std.specs.Prelude.{◌≡◌, ◌+◌, ℕ, ℤ, pos, negsuc, ◌+ℤ◌, Bool, true, false, List, [], ◌∷◌, if◌then◌else◌, unsigned_abs}
 use Rattle.std.specs.List.{flat_map}
@@ -55,7 +55,7 @@ sign_of w = if w.forward then pos 1 else negsuc 0
 -- a way with other ends begins the next run
 abbrev pub runs : Way → ℤ → List Way → ℕ
 runs u k [] = unsigned_abs k
-runs u k (w ∷ ws) = if is_eq (ends_cmp u w) then runs u (k +ℤ sign_of w) ws else unsigned_abs k + runs w (pos 0 +ℤ sign_of w) ws
+runs u k (w ∷ ws) = if is_eq (ends_cmp u w) then runs w (k +ℤ sign_of w) ws else unsigned_abs k + runs w (pos 0 +ℤ sign_of w) ws
 
 abbrev pub all_runs : List Way → ℕ
 all_runs [] = 0

@@ -97,15 +97,15 @@ fn count_runs(ways: &[Way]) -> u64
     if ways.is_empty() {
         return 0;
     }
-    let mut run = ways[0];
+    let mut last = ways[0];
     let mut balance = 0i64;
     let mut open = 0u64;
     for way in ways {
-        if !have_same_ends(&run, way) {
+        if !have_same_ends(&last, way) {
             open += balance.unsigned_abs();
             balance = 0;
-            run = *way;
         }
+        last = *way;
         balance = balance_with(balance, way);
     }
     open + balance.unsigned_abs()
