@@ -115,12 +115,12 @@ walk u k (w ∷ ws) done t counted up right before =
     let behind = before_next u w done first above before in
     cond_both (is_eq (ends_cmp u w)) (runs w (k +ℤ sign_of w) ws) (unsigned_abs k + runs w (pos 0 +ℤ sign_of w) ws) (λ n. t + n ≡ open_in (map edge_of (reversed_onto ws (w ∷ done))))
     (λ same.
-      let here = same_run u w (map edge_of done) k t (equal_from (ends_cmp u w) same) counted in
-      walk w (k +ℤ sign_of w) ws (w ∷ done) t (one_more w.low w.high w.forward (map edge_of done) k t first here) up.1 later behind)
+    let here = same_run u w (map edge_of done) k t (equal_from (ends_cmp u w) same) counted in
+    walk w (k +ℤ sign_of w) ws (w ∷ done) t (one_more w.low w.high w.forward (map edge_of done) k t first here) up.1 later behind)
     (λ other.
-      let here = next_run u w done k t first (less_from (ends_cmp u w) above other) before counted in
-      let rest = walk w (pos 0 +ℤ sign_of w) ws (w ∷ done) (t + unsigned_abs k) (one_more w.low w.high w.forward (map edge_of done) (pos 0) (t + unsigned_abs k) first here) up.1 later behind in
-      omega arith)
+    let here = next_run u w done k t first (less_from (ends_cmp u w) above other) before counted in
+    let rest = walk w (pos 0 +ℤ sign_of w) ws (w ∷ done) (t + unsigned_abs k) (one_more w.low w.high w.forward (map edge_of done) (pos 0) (t + unsigned_abs k) first here) up.1 later behind in
+    omega arith)
 
 -- the order in which the walk leaves them behind doesn't matter
 times-reversed : (ws done : List Way) (e : Edge) → times (map edge_of (reversed_onto ws done)) e ≡ times (map edge_of ws) e + times (map edge_of done) e

@@ -49,9 +49,9 @@ excess_ways es e =
     edge_cases e (turned e)
     (λ q. let a = ap (times (map edge_of (ways es))) q in let b = ap (times es) q in omega arith)
     (λ line.
-      let a = times_ways es e (λ q. line (edges_same e (turned e) q (sym q))) in
-      let b = times_ways es (turned e) (λ q. line (edges_same e (turned e) (sym q) q)) in
-      omega arith)
+    let a = times_ways es e (λ q. line (edges_same e (turned e) q (sym q))) in
+    let b = times_ways es (turned e) (λ q. line (edges_same e (turned e) (sym q) q)) in
+    omega arith)
 
 times_permutation : (vs ws : List Way) (e : Edge) → IsPermutation vs ws → times (map edge_of ws) e ≡ times (map edge_of vs) e
 times_permutation vs ws e p = sum_by-IsPermutation (λ d. cond (same_edge e d) 1 0) (map edge_of vs) (map edge_of ws) (IsPermutation-map edge_of vs ws p)
@@ -60,10 +60,10 @@ pub runs_count_open : (es : List Edge) (ws : List Way) → IsPermutation (ways e
 runs_count_open es ws p up =
     all_runs_are_open ws up (λ x i. All-in IsUpright ws x (All-permutation IsUpright (ways es) ws p (All-from_in IsUpright (ways es) (upright_ways es))) i)
     ∙ open_same (map edge_of ws) es (λ e.
-      let a = times_permutation (ways es) ws e p in
-      let b = times_permutation (ways es) ws (turned e) p in
-      let c = excess_ways es e in
-      omega arith)
+    let a = times_permutation (ways es) ws e p in
+    let b = times_permutation (ways es) ws (turned e) p in
+    let c = excess_ways es e in
+    omega arith)
 
 -- ---- there are at most three for each facet
 length-ways : (es : List Edge) → length (ways es) ≤ length es

@@ -64,3 +64,6 @@ pub fn look(alloc: Global, mesh: &Mesh) -> Result<Notes, NoMemory>
 pub fn open_edges_are_a_sum_over_all_pairs()
     ensures { (facets : List Facet) → SumIsOpen facets }
 {}
+
+#[cfg(test)]
+mod tests;

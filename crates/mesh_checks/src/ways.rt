@@ -86,7 +86,11 @@ fn balance_with(balance: i64, way: &Way) -> i64
     ensures value { result ≡ balance +ℤ sign_of way.now }
     ensures size { unsigned_abs result ≤ unsigned_abs balance + 1 }
 {
-    if way.forward { balance + 1 } else { balance - 1 }
+    if way.forward {
+        balance + 1
+    } else {
+        balance - 1
+    }
 }
 
 // Goes through the runs of one edge: those forward and those back cancel each other, and what is left is open.

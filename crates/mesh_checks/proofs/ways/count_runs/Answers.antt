@@ -9,11 +9,11 @@ loop-way-preserved c =
     let size = c.balance_with-balance.ensures.size in
     let value = c.balance_with-balance.ensures.value in
     elim c.if-not-have_same_ends.branch [
-      then-not-have_same_ends w ↦ record {
+      | then-not-have_same_ends w ↦ record {
         left = begins _ _ _ _ _ _ _ _ _ c.loop-way-test.true (sym c.have_same_ends.ensures ∙ w.if-not-have_same_ends.true) c.loop-way.invariant.left (omega (arith, ints)) (let a = w.unsigned_abs-open.ensures.value in omega (arith, ints));
         few = omega (arith, ints);
       }
-    | else-not-have_same_ends w ↦ record {
+      | else-not-have_same_ends w ↦ record {
         left = goes_on _ _ _ _ _ _ _ _ _ c.loop-way-test.true (sym c.have_same_ends.ensures ∙ w.if-not-have_same_ends.false) c.loop-way.invariant.left (omega (arith, ints)) w.open-is;
         few = omega (arith, ints);
       }
