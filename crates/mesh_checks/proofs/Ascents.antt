@@ -8,11 +8,11 @@ use Rattle.std.proofs.lemmas.Int.{ints}
 use Rattle.integer_laws.specs.Members.{In}
 use Rattle.seq_model.specs.declared.mesh.Point3.{Point3}
 use Rattle.mesh_checks.specs.declared.ways.Way.{Way}
-use Rattle.mesh_checks.specs.Edges.{Edge, edge, turned, same_edge, times, excess, open_in}
+use Rattle.mesh_checks.specs.Edges.{Edge, edge, turned, same_edge, times, open_in}
 use Rattle.mesh_checks.specs.Runs.{point_cmp, ends_cmp, edge_of, way, sign_of, runs, all_runs, IsUpright, AscendsFrom, IsAscending}
 use Rattle.mesh_checks.proofs.Counts.{times_same, times_other, open_same}
 use Rattle.mesh_checks.proofs.Steps.{step}
-use Rattle.mesh_checks.proofs.Ends.{point_total, ends_total, two_points, turned_down, same_ends, less_after}
+use Rattle.mesh_checks.proofs.Ends.{ends_total, two_points, turned_down, same_ends, less_after}
 
 -- after the edges es, a walk has counted t in the runs before that of low and high, which has the balance k
 pub record Counted (es : List Edge) (low high : Point3) (k : ℤ) (t : ℕ) : Type 0 where

@@ -1,10 +1,10 @@
 -- How often edges stand in lists, and what sums of their excess depend on.
-use Rattle.std.proofs.Common.{◌≡◌, ℕ, ◌+◌, ◌-◌, ◌<◌, List, [], ◌∷◌, refl, ap, sym, subst, ◌∙◌, arith, ◌⊎◌, inl, inr, Bool, true, false, cond, sum_by}
+use Rattle.std.proofs.Common.{◌≡◌, ◌+◌, ◌<◌, List, [], ◌∷◌, ap, sym, subst, ◌∙◌, arith, inl, inr, Bool, true, false, cond, sum_by}
 use Rattle.std.specs.List.{list_any}
 use Rattle.std.proofs.lemmas.Bool.{or_cases, or_left, or_right, cond_both}
 use Rattle.std.proofs.lemmas.List.Sums.{sum_by-cons}
 use Rattle.integer_laws.specs.Members.{In}
-use Rattle.mesh_checks.specs.Edges.{Edge, turned, same_edge, times, excess, each_once, open_in}
+use Rattle.mesh_checks.specs.Edges.{Edge, same_edge, times, excess, each_once, open_in}
 use Rattle.mesh_checks.proofs.Same.{same_edge_is, edge_itself, other_edge, edge_cases}
 use Rattle.mesh_checks.proofs.Sums.{Once, one_sum, sum_alike}
 

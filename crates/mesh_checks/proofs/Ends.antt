@@ -1,16 +1,15 @@
 -- The order of points and of the ends of ways.
-use Rattle.std.proofs.Common.{◌≡◌, ℕ, suc, ◌+◌, List, [], ◌∷◌, get_or, refl, ap, sym, subst, ◌∙◌, arith, ℤ, Bool, false, Ordering, Less, Equal, Greater}
+use Rattle.std.proofs.Common.{◌≡◌, ℕ, suc, ◌+◌, List, [], ◌∷◌, get_or, refl, ap, subst, ◌∙◌, arith, ℤ, Bool, false, Ordering, Less, Equal, Greater}
 use Rattle.std.specs.Cmp.{IsTotalOrder, IsStrictWeakOrder}
 use Rattle.std.specs.List.Sorted.{IsSortedBy}
-use Rattle.std.specs.Ordering.{int_cmp, is_eq, is_gt, is_lt, on, ordering_then, ordering_reverse}
+use Rattle.std.specs.Ordering.{int_cmp, is_gt, is_lt, ordering_then, ordering_reverse}
 use Rattle.std.proofs.lemmas.Int.{ints}
 use Rattle.std.proofs.lemmas.Bool.Decides.{nat_tests}
 use Rattle.std.proofs.lemmas.Cmp.{int_cmp_total, on_total, then_total, tied_itself}
 use Rattle.std.proofs.lemmas.List.Sorted.{ranks_by}
 use Rattle.seq_model.specs.declared.mesh.Point3.{Point3}
 use Rattle.mesh_checks.specs.declared.ways.Way.{Way}
-use Rattle.mesh_checks.specs.Edges.{edge}
-use Rattle.mesh_checks.specs.Runs.{point_cmp, ends_cmp, edge_of, way, IsUpright, AscendsFrom, IsAscending}
+use Rattle.mesh_checks.specs.Runs.{point_cmp, ends_cmp, AscendsFrom, IsAscending}
 use Rattle.mesh_checks.proofs.Same.{points_same}
 
 pub point_total : IsTotalOrder point_cmp

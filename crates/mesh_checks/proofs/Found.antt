@@ -1,5 +1,5 @@
 -- The ways along edges have the excess of the edges, in whatever order they stand.
-use Rattle.std.proofs.Common.{◌≡◌, ℕ, ◌+◌, ◌*◌, ◌≤◌, List, [], ◌∷◌, ◌++◌, length, map, refl, ap, sym, subst, ◌∙◌, arith, true, false, cond, All, Ordering, Less, Equal, Greater, inl, inr, length-append}
+use Rattle.std.proofs.Common.{◌≡◌, ◌*◌, ◌≤◌, List, [], ◌∷◌, ◌++◌, length, map, refl, ap, sym, subst, ◌∙◌, arith, true, false, cond, Ordering, Less, Equal, Greater, inl, inr}
 use Rattle.std.specs.List.Sorted.{IsPermutation}
 use Rattle.std.specs.Ordering.{match_ordering, ordering_reverse}
 use Rattle.std.proofs.lemmas.List.Sums.{sum_by-cons}
@@ -7,7 +7,7 @@ use Rattle.std.proofs.lemmas.List.Sorted.{All-permutation, IsPermutation-map, su
 use Rattle.integer_laws.specs.Members.{In, In-append_cases, All-in, All-from_in}
 use Rattle.seq_model.specs.declared.mesh.Facet.{Facet}
 use Rattle.mesh_checks.specs.declared.ways.Way.{Way}
-use Rattle.mesh_checks.specs.Edges.{Edge, edge, edges, turned, same_edge, times, excess, open_in}
+use Rattle.mesh_checks.specs.Edges.{Edge, edges, turned, same_edge, times, excess, open_in}
 use Rattle.mesh_checks.specs.Runs.{point_cmp, edge_of, way, way_of, ways, all_runs, IsUpright, IsAscending}
 use Rattle.mesh_checks.proofs.Same.{edges_same, edge_cases}
 use Rattle.mesh_checks.proofs.Counts.{times_other, open_same}

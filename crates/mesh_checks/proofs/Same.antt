@@ -5,7 +5,7 @@ use Rattle.std.proofs.lemmas.Int.{ints}
 use Rattle.std.proofs.lemmas.Bool.{and_parts, and_from, false_from_ne_true}
 use Rattle.std.proofs.lemmas.Bool.Decides.{nat_tests}
 use Rattle.seq_model.specs.declared.mesh.Point3.{Point3}
-use Rattle.mesh_checks.specs.Edges.{Edge, edge, turned, same_point, same_edge}
+use Rattle.mesh_checks.specs.Edges.{Edge, edge, same_point, same_edge}
 
 same_number : (x y : ℤ) → int_eq x y ≡ true → x ≡ y
 same_number x y e = grind (arith, ints, nat_tests)

@@ -1,5 +1,5 @@
 -- Sums over lists that have no edge twice.
-use Rattle.std.proofs.Common.{◌≡◌, ℕ, zero, suc, ◌+◌, ◌<◌, ◌≤◌, List, [], ◌∷◌, ◌++◌, refl, ap, sym, subst, arith, ◌⊎◌, inl, inr, sum_by}
+use Rattle.std.proofs.Common.{◌≡◌, ℕ, zero, suc, ◌<◌, ◌≤◌, List, [], ◌∷◌, ◌++◌, refl, ap, sym, subst, arith, ◌⊎◌, inl, inr, sum_by}
 use Rattle.std.proofs.lemmas.List.Sums.{sum_by-cons, sum_by-append}
 use Rattle.integer_laws.specs.Members.{In, Contains-from_in, In-append_left, In-append_right, In-append_cases}
 use Rattle.mesh_checks.specs.Edges.{Edge, IsOnce}

@@ -1,7 +1,6 @@
 -- One more way of a walk over runs.
-use Rattle.std.proofs.Common.{◌≡◌, ℕ, ◌+◌, ◌<◌, List, ◌∷◌, length, get_or, drop, drop-cons, add-one, refl, ap, arith, ℤ, pos, ◌+ℤ◌, unsigned_abs, Bool, true, false, Ordering, Less, Equal, Greater}
-use Rattle.std.specs.Ordering.{is_eq, ordering_index}
-use Rattle.std.specs.Prelude.{◌==◌, not}
+use Rattle.std.proofs.Common.{◌≡◌, ℕ, ◌+◌, ◌<◌, List, ◌∷◌, length, get_or, drop, drop-cons, add-one, refl, ap, arith, ℤ, pos, ◌+ℤ◌, unsigned_abs, true, false}
+use Rattle.std.specs.Ordering.{is_eq}
 use Rattle.std.proofs.lemmas.Bool.{cond-true, cond-false}
 use Rattle.mesh_checks.specs.declared.ways.Way.{Way}
 use Rattle.mesh_checks.specs.Runs.{ends_cmp, sign_of, runs}

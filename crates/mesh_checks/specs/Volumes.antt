@@ -3,7 +3,7 @@
 --   cross b c             the cross product b × c
 --   dot a b               the inner product a · b
 --   six_volume facets     the sum of a · (b × c) over the facets
-use Rattle.std.specs.Prelude.{ℤ, pos, ◌+ℤ◌, ◌-ℤ◌, ◌*ℤ◌, List, [], ◌∷◌, fold}
+use Rattle.std.specs.Prelude.{ℤ, pos, ◌+ℤ◌, ◌-ℤ◌, ◌*ℤ◌, List, fold}
 use Rattle.seq_model.specs.declared.mesh.Facet.{Facet}
 use Rattle.seq_model.specs.declared.mesh.Point3.{Point3}
 

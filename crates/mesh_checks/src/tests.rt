@@ -1,4 +1,4 @@
-ghost use Rattle.std.specs.Prelude.{◌≡◌, ◌≤◌, length, All, IfOk};
+ghost use Rattle.std.specs.Prelude.{All, IfOk};
 ghost use Rattle.seq_model.specs.Bounds.{IsNear, IsNearFacet};
 
 use super::*;
@@ -104,8 +104,7 @@ fn facet(corners: &Triangle, inside_out: bool) -> Facet
 }
 
 fn facets(alloc: Global, list: &[Triangle], inside_out: bool) -> Result<Vec<Facet>, AllocError>
-    ensures near { IfOk result (λ facets. All IsNearFacet facets.items) }
-    ensures few { IfOk result (λ facets. length facets.items ≡ length list.now) }
+    ensures { IfOk result (λ facets. All IsNearFacet facets.items) }
 {
     let mut facets = Vec::new(alloc);
     for corners in list {

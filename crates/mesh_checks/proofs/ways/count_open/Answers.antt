@@ -1,6 +1,6 @@
-use Rattle.std.proofs.Common.{◌≡◌, ◌≤◌, ap, sym, subst, ◌∙◌, arith, length, IsPermutation}
+use Rattle.std.proofs.Common.{ap, subst, ◌∙◌, arith, length, IsPermutation}
 use Rattle.mesh_checks.specs.Edges.{edges}
-use Rattle.mesh_checks.specs.Runs.{ways, all_runs}
+use Rattle.mesh_checks.specs.Runs.{all_runs}
 use Rattle.mesh_checks.proofs.Found.{runs_count_open, few_ways}
 use Rattle.mesh_checks.proofs.ways.count_open.Goals as goal
 

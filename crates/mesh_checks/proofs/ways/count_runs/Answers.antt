@@ -1,4 +1,4 @@
-use Rattle.std.proofs.Common.{◌≡◌, ap, sym, ◌∙◌, arith, to_z, of_z, pos, ◌+ℤ◌, w64}
+use Rattle.std.proofs.Common.{sym, ◌∙◌, arith}
 use Rattle.std.proofs.lemmas.Int.{ints}
 use Rattle.mesh_checks.proofs.Walk.{goes_on, begins}
 use Rattle.mesh_checks.proofs.ways.count_runs.Goals as goal
