@@ -1,6 +1,7 @@
 -- The worked examples: outlines of cubes and wedges of 20 mm with a margin of one grain of 1 mm, the three parts of a printer
 -- with a nozzle and a gantry, and a tree that refutes extent 45 for two cubes.
-use Rattle.std.specs.Prelude.{◌≡◌, ℕ, List, [], ◌∷◌, ℤ, pos, negsuc, Some, None, replicate}
+use Rattle.std.specs.Prelude.{◌≡◌, ℕ, List, [], ◌∷◌, ℤ, pos, negsuc, None, replicate, codes}
+use Rattle.seq_model.specs.Parts.{tip}
 use Rattle.seq_model.specs.declared.job.Job.{Job}
 use Rattle.seq_model.specs.declared.job.Object.{Object}
 use Rattle.seq_model.specs.declared.printer.Part.{Part}
@@ -30,9 +31,9 @@ dir x y = record { x = x; y = y }
 -- the three parts: the tip, the nozzle, and a gantry that reaches from two bands above
 abbrev pub moving_parts : List Part
 moving_parts =
-    record { name = []; corners = spot (pos 0) (pos 0) ∷ []; lo = 0; hi = Some 0 }
-    ∷ record { name = []; corners = nozzle; lo = 0; hi = None }
-    ∷ record { name = []; corners = spot (negsuc 100) (negsuc 9) ∷ spot (pos 101) (negsuc 9) ∷ spot (pos 101) (pos 10) ∷ spot (negsuc 100) (pos 10) ∷ []; lo = 2; hi = None }
+    tip
+    ∷ record { name = codes "nozzle"; corners = nozzle; lo = 0; hi = None }
+    ∷ record { name = codes "gantry"; corners = spot (negsuc 100) (negsuc 9) ∷ spot (pos 101) (negsuc 9) ∷ spot (pos 101) (pos 10) ∷ spot (negsuc 100) (pos 10) ∷ []; lo = 2; hi = None }
     ∷ []
 
 -- an object of two bands with this outline, which reaches from -1 to 21

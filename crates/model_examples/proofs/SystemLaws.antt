@@ -3,7 +3,7 @@ use Rattle.std.proofs.Common.{◌≡◌, List, [], ◌∷◌, ◌++◌, take, re
 use Rattle.std.proofs.lemmas.Int.{ints}
 use Rattle.std.proofs.lemmas.List.Elements.{All-nil, All-cons, All-get_or}
 use Rattle.seq_model.specs.Budgets.{full_of}
-use Rattle.seq_model.specs.Cubes.{cube, wedge, dir, object_of, IsJobOf, nozzle_contact}
+use Rattle.model_examples.specs.Cubes.{cube, wedge, dir, object_of, IsJobOf, nozzle_contact}
 use Rattle.seq_model.specs.Systems.{Row, bounds_of, side_row, side_rows, IsTaken, Contradiction}
 use Rattle.seq_model.specs.declared.job.Job.{Job}
 use Rattle.seq_model.specs.declared.tree.Choice.TheVariants as Choices

@@ -1,7 +1,7 @@
 -- The worked examples, which show that the definitions mean what was meant.
 use Rattle.std.proofs.Common.{◌≡◌, ◌<◌, ◌≤◌, List, [], ◌∷◌, refl, sym, arith, ℤ, pos, negsuc, ◌*ℤ◌, ◌≤ℤ◌, ◌<ℤ◌, inl, inr}
 use Rattle.std.proofs.lemmas.Int.{ints}
-use Rattle.seq_model.specs.Cubes.{spot, square, cube, wedge, nozzle, dir}
+use Rattle.model_examples.specs.Cubes.{spot, square, cube, wedge, nozzle, dir}
 use Rattle.seq_model.specs.Contacts.{difference}
 use Rattle.seq_model.specs.Outlines.{Inner}
 use Rattle.seq_model.specs.Plates.{region_of}
@@ -10,7 +10,7 @@ use Rattle.seq_model.specs.Scenes.{Overlap}
 use Rattle.seq_model.specs.Sides.{greatest_along}
 use Rattle.seq_model.specs.declared.printer.Spot.{Spot}
 use lib.Signed.{le_z_yes, lt_z_yes}
-use Rattle.seq_model.proofs.Apart.{east_of, west_of, at_spot, no_sum}
+use Rattle.model_examples.proofs.Apart.{east_of, west_of, at_spot, no_sum}
 use Rattle.integer_laws.specs.Order.{le_of_same, lt_from}
 use Rattle.integer_laws.specs.Ring.{expand}
 
