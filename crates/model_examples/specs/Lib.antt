@@ -1,2 +1,4 @@
 pub mod Cubes
-pub mod Try
+pub mod Deciding
+pub mod Jobs
+pub mod Rows

@@ -1,10 +1,12 @@
 //! The worked examples of the definitions.
+//!
+//! Each call does nothing, and its contract says what the definitions of `seq_model` and `row_walks` mean at numbers that
+//! were worked out by hand: which points are inner, when two cubes collide, the system of a path, a tree that refutes an
+//! extent, a walk of bases. `specs/Cubes.antt` and `specs/Jobs.antt` have the cubes, the wedges, their printer and their jobs.
+//!
+//! Nothing stands on this crate. It is here so that a definition that says something else than was meant isn't proved.
 #![tactic(auto)]
 
-ghost use Rattle.std.specs.Prelude.{◌≡◌, pos};
-ghost use Rattle.seq_model.specs.Plates.{region_of};
-
-/// regions
-pub fn regions()
-    ensures { region_of (pos 100) (pos 100) 100 22 ≡ record { low = record { x = pos 39; y = pos 39 }; w = pos 22; h = pos 22 } }
-{}
+pub mod outlines;
+pub mod pairs;
+pub mod systems;
