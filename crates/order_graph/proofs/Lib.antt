@@ -1,0 +1,5 @@
+pub mod LeadingLaws
+pub mod Lists
+pub mod NextLaws
+pub mod SetLaws
+pub mod WayLaws

@@ -1,6 +1,6 @@
 ghost use Rattle.std.specs.Prelude.{◌≡◌, ◌≢◌, ◌↔◌, ℕ, ◌<◌, List, [], ◌∷◌, IsTrue, MatchOption};
 ghost use Rattle.order_graph.specs.Orders.{Leads, ClosesCycle};
-ghost use Rattle.order_graph.specs.Sets.{IsBefore, AreNoted};
+ghost use Rattle.order_graph.specs.Sets.{AreNoted};
 ghost use Rattle.order_graph.specs.Walks.{IsKnown, AllKnown, LeadsOn};
 
 use crate::answers::Cycle;
@@ -9,7 +9,7 @@ use crate::way::follow;
 
 /// For each object that leads to the goal the next one on a way there.
 ///
-/// Each object opens once and is shut once: at most 31 turns.
+/// Each object comes into `todo` once and leaves it once: at most 31 turns.
 fn next_towards(before: &[u16; 16], goal: u32) -> [Option<u32>; 16]
     requires { goal < 16 }
     ensures leads { LeadsOn before.now goal result }
@@ -17,15 +17,15 @@ fn next_towards(before: &[u16; 16], goal: u32) -> [Option<u32>; 16]
 {
     let mut next = [None; 16];
     let mut known = with(0, goal);
-    let mut open = known;
-    while let Some(b) = least(open) {
+    let mut todo = known;
+    while let Some(b) = least(todo) {
         match least(apart(before[b as usize], known)) {
             Some(a) => {
                 next[a as usize] = Some(b);
                 known = with(known, a);
-                open = with(open, a);
+                todo = with(todo, a);
             }
-            None => open = without(open, b),
+            None => todo = without(todo, b),
         }
     }
     next
@@ -36,7 +36,6 @@ pub fn cycle_closed_by(before: &[u16; 16], i: u32, j: u32) -> Option<Cycle>
     requires i { i < 16 }
     requires j { j < 16 }
     requires apart { i ≢ j }
-    requires below { (a b : ℕ) → IsBefore before.now a b → b < 16 }
     ensures { (orders : List (ℕ × ℕ)) → AreNoted orders before.now →
         MatchOption result (Leads orders j i → ⊥) (ClosesCycle orders i j) }
 {

@@ -16,6 +16,7 @@ pub fn with(set: u16, k: u32) -> u16
     requires { k < 16 }
     ensures same { Has result k }
     ensures others { (a : ℕ) → a ≢ k → Has result a ↔ Has set a }
+    ensures more { (Has set k → ⊥) → set < result }
 {
     set | (1 << k)
 }
