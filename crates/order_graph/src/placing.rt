@@ -1,4 +1,4 @@
-ghost use Rattle.std.specs.Prelude.{◌≡◌, ℕ, ◌<◌, ◌≤◌, List, ◌++◌, MatchOption, MatchResult};
+ghost use Rattle.std.specs.Prelude.{◌≡◌, ◌≢◌, ℕ, ◌<◌, ◌≤◌, List, ◌++◌, MatchOption, MatchResult};
 ghost use Rattle.order_graph.specs.Orders.{AreAmong, IsAmong, IsOrder, IsSimpleCycle};
 ghost use Rattle.order_graph.specs.Sets.{Has, IsBefore, AreNoted};
 ghost use Rattle.order_graph.specs.Walks.{IsFree, NoneFree, IsEarlier};
@@ -25,10 +25,10 @@ fn free(before: &[u16; 16], left: u16) -> Option<u32>
 {
     let mut rest = left;
     while let Some(k) = least(rest) {
-        if shared(before[k as usize], left) == 0 {
-            return Some(k);
+        match least(shared(before[k as usize], left)) {
+            None => return Some(k),
+            Some(_) => rest = without(rest, k),
         }
-        rest = without(rest, k);
     }
     None
 }
@@ -51,7 +51,7 @@ fn earlier(before: &[u16; 16], left: u16) -> [Option<u32>; 16]
 fn cycle_among(before: &[u16; 16], left: u16, start: u32) -> Cycle
     requires start { Has left start }
     requires none { NoneFree before.now left }
-    requires apart { (a b : ℕ) → IsBefore before.now a b → IsAmong 16 (a, b) }
+    requires apart { (a b : ℕ) → IsBefore before.now a b → a ≢ b }
     ensures { (orders : List (ℕ × ℕ)) → AreNoted orders before.now → IsSimpleCycle orders result }
 {
     match follow(&earlier(before, left), start) {

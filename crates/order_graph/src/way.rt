@@ -49,9 +49,10 @@ impl Way {
     pub fn into_order(self) -> Order
         ensures { result ≡ self }
     {
+        let Way { len, objects } = self;
         Order {
-            len: self.len as u32,
-            objects: self.objects,
+            len: len as u32,
+            objects,
         }
     }
 
