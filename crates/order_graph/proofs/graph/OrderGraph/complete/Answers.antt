@@ -1,5 +1,5 @@
-use Rattle.std.proofs.Common.{ℕ, List, MatchResult, take, ◌++◌}
-use Rattle.order_graph.specs.Orders.{IsOrder, IsSimpleCycle}
+use Rattle.std.proofs.Common.{◌≡◌, take, ◌++◌, sym, subst, ap}
+use Rattle.order_graph.specs.Orders.{AreAmong, IsOrder, IsSimpleCycle}
 use Rattle.order_graph.proofs.OrderLaws.{if_ok, if_err, order_exactly, cycle_exactly, order_whole}
 use Rattle.order_graph.proofs.NoteLaws.{all_among, before_among}
 use Rattle.order_graph.proofs.graph.OrderGraph.complete.Goals as goal
@@ -8,7 +8,9 @@ pub order_of-requires-clause-among : goal.order_of-requires-clause-among
 order_of-requires-clause-among c =
     let g = c.self.inside in
     let held = take g.len g.held in
-    before_among g.n (held ++ c.args.forced.now) c.noted-before.result (all_among g.n held c.args.forced.now c.self.invariant.1.among ?) (c.noted-before.ensures held c.self.invariant.2)
+    let objects : g.n ≡ c.args.self.now.objects = ap (λ t. t.objects) c.self.view_is in
+    let forced = subst (λ n. AreAmong n c.args.forced.now) (sym objects) c.requires in
+    before_among g.n (held ++ c.args.forced.now) c.noted-before.result (all_among g.n held c.args.forced.now c.self.invariant.1.among forced) (c.noted-before.ensures held c.self.invariant.2)
 
 pub returns-clause-order : goal.returns-clause-order
 returns-clause-order c =

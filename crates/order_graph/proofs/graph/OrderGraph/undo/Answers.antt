@@ -1,6 +1,6 @@
-use Rattle.std.proofs.Common.{arith, rules, ◌≡◌, ◌<◌, ◌≤◌, ◌+◌, ◌-◌, length, take, get_or, subst}
-use Rattle.std.proofs.lemmas.List.{take-take, get_or-take}
-use Rattle.order_graph.specs.Orders.{IsGraph, IsAmong}
+use Rattle.std.proofs.Common.{arith, rules, ◌≡◌, ◌<◌, ◌≤◌, ◌+◌, ◌-◌, length, take, subst, ap, length-take}
+use Rattle.std.proofs.lemmas.List.{take-take}
+use Rattle.order_graph.specs.Orders.{IsGraph}
 use Rattle.order_graph.proofs.OrderLaws.{graph_fewer}
 use Rattle.order_graph.proofs.NoteLaws.{former_fewer, last_among, last_undone}
 use Rattle.order_graph.proofs.graph.OrderGraph.undo.Goals as goal
@@ -10,7 +10,8 @@ invariant_of-self c =
     let g = c.self.inside in
     let is = c.self.invariant in
     let m = g.len - 1 in
-    let one : g.len ≡ m + 1 = ? in
+    let count : length (take g.len g.held) ≡ length c.args.self.now.held = ap (λ t. length t.held) c.self.view_is in
+    let one : g.len ≡ m + 1 = omega (arith, c.requires, length-take g.len g.held) in
     let orders : length g.held ≡ 256 = search rules in
     let objects : length g.before ≡ 16 = search rules in
     let among = last_among g.n g.held g.len m one (omega (arith, is.0, orders)) is.1.among in
