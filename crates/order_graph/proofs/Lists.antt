@@ -49,5 +49,5 @@ once_turned front last once =
     let ends : (d : ℕ) → get_or (front ++ last ∷ []) (length front) d ≡ last = λ d. get_or_at front last [] d (length front) refl in
     let part : (d k : ℕ) → k < length front → get_or (front ++ last ∷ []) k d ≡ get_or front k d = λ d k within. get_or_append_left front (last ∷ []) d k within in
     AllPairs-cons (λ a b. a ≢ b) last front
-        (λ k d within same. once k (length front) d within (omega arith) (part d k within ∙ sym same ∙ sym (ends d)))
-        (λ i j d before within same. once i j d before (omega arith) (part d i (omega arith) ∙ same ∙ sym (part d j within)))
+    (λ k d within same. once k (length front) d within (omega arith) (part d k within ∙ sym same ∙ sym (ends d)))
+    (λ i j d before within same. once i j d before (omega arith) (part d i (omega arith) ∙ same ∙ sym (part d j within)))

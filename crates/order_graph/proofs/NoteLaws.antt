@@ -1,5 +1,5 @@
 -- How the sets follow the orders, as one more is held and as the last is taken away.
-use Rattle.std.proofs.Common.{◌≡◌, ◌≢◌, ◌↔◌, ℕ, zero, suc, ◌+◌, ◌<◌, ◌≤◌, List, [], ◌∷◌, ◌++◌, length, get_or, set, take, replicate, ◌⊎◌, inl, inr, ⊎_elim, refl, sym, subst, ap, ◌∙◌, arith, get_or-set_same, get_or-set_other, length-take, length-set}
+use Rattle.std.proofs.Common.{◌≡◌, ◌≢◌, ◌↔◌, ℕ, zero, suc, ◌+◌, ◌<◌, ◌≤◌, List, [], ◌∷◌, ◌++◌, length, get_or, set, take, replicate, ◌⊎◌, inl, inr, ⊎_elim, refl, sym, subst, ap, ◌∙◌, arith, get_or-set_same, get_or-set_other, length-take}
 use Rattle.std.proofs.lemmas.Bool.{cases_eq, cases_lt}
 use Rattle.std.proofs.lemmas.List.{get_or_append_left, get_or_at, get_or-take, length_push, take-append-le, take_at, take_more, take-take}
 use Rattle.std.proofs.lemmas.List.Elements.{All-append, All-contains, Contains-append_left, Contains-push, Contains-push_cases}
@@ -73,20 +73,20 @@ pub former_more : (held : List (ℕ × ℕ)) (former : List ℕ) (i j old place 
 former_more held former i j old place is_end room are was k below =
     let more = held ++ (i, j) ∷ [] in
     ⊎_elim
-        (λ earlier.
-        let before_end : k < length held = omega arith in
-        let part : take k more ≡ take k held = take-append-le k held ((i, j) ∷ []) (omega arith) in
-        let order : get_or more k (0, 0) ≡ get_or held k (0, 0) = get_or_append_left held ((i, j) ∷ []) (0, 0) k before_end in
-        let kept : get_or (set former place old) k 0 ≡ get_or former k 0 = get_or-set_other former place k old 0 (λ same. omega arith) in
-        rw (part, order, kept) (are k before_end))
-        (λ later.
-        let at_end : k ≡ length held = omega (arith, length_push held (i, j)) in
-        let at : k ≡ place = omega arith in
-        let part : take k more ≡ held = take_at held ((i, j) ∷ []) k (sym at_end) in
-        let order : get_or more k (0, 0) ≡ (i, j) = get_or_at held (i, j) [] (0, 0) k (sym at_end) in
-        let kept : get_or (set former place old) k 0 ≡ old = ap (λ p. get_or (set former place old) p 0) at ∙ get_or-set_same former place old 0 room in
-        rw (part, order, kept) was)
-        (cases_lt k place)
+    (λ earlier.
+    let before_end : k < length held = omega arith in
+    let part : take k more ≡ take k held = take-append-le k held ((i, j) ∷ []) (omega arith) in
+    let order : get_or more k (0, 0) ≡ get_or held k (0, 0) = get_or_append_left held ((i, j) ∷ []) (0, 0) k before_end in
+    let kept : get_or (set former place old) k 0 ≡ get_or former k 0 = get_or-set_other former place k old 0 (λ same. omega arith) in
+    rw (part, order, kept) (are k before_end))
+    (λ later.
+    let at_end : k ≡ length held = omega (arith, length_push held (i, j)) in
+    let at : k ≡ place = omega arith in
+    let part : take k more ≡ held = take_at held ((i, j) ∷ []) k (sym at_end) in
+    let order : get_or more k (0, 0) ≡ (i, j) = get_or_at held (i, j) [] (0, 0) k (sym at_end) in
+    let kept : get_or (set former place old) k 0 ≡ old = ap (λ p. get_or (set former place old) p 0) at ∙ get_or-set_same former place old 0 room in
+    rw (part, order, kept) was)
+    (cases_lt k place)
 
 -- The list of orders and the numbers of those held, n before the last is taken away and m after.
 

@@ -1,10 +1,10 @@
 -- How the places of an order are filled, and what stands in the way.
-use Rattle.std.proofs.Common.{◌≡◌, ◌≢◌, ◌↔◌, ℕ, ◌+◌, ◌<◌, ◌≤◌, List, [], ◌∷◌, ◌++◌, length, get_or, set, take, reverse, replicate, Option, Some, None, IsSome, MatchOption, All, Contains, ⊎_elim, refl, sym, subst, ap, ◌∙◌, get_or-set_same, get_or-set_other, length-set, arith}
+use Rattle.std.proofs.Common.{◌≡◌, ◌≢◌, ◌↔◌, ℕ, ◌+◌, ◌<◌, ◌≤◌, List, [], ◌∷◌, ◌++◌, length, get_or, set, take, reverse, replicate, Option, Some, None, IsSome, MatchOption, Contains, ⊎_elim, refl, sym, subst, ap, ◌∙◌, get_or-set_same, get_or-set_other, length-set, arith}
 use Rattle.std.proofs.lemmas.Bool.{cases_eq, cases_lt, false≢true}
 use Rattle.std.proofs.lemmas.List.{length_push, length-reverse, get_or_append_left, get_or_at, get_or_default}
 use Rattle.std.proofs.lemmas.List.Elements.{Contains-get_or, All-contains_itself, All-weaker, Contains-append_left, Contains-push, Contains-push_cases}
 use Rattle.std.proofs.lemmas.Nat.Bits.{bit_at_above}
-use Rattle.order_graph.specs.Orders.{IsAmong, IsOnce, IsOrdered, EachNext, IsSimpleCycle, IsOrder, StandsBefore}
+use Rattle.order_graph.specs.Orders.{IsAmong, IsOrdered, EachNext, IsSimpleCycle, IsOrder, StandsBefore}
 use Rattle.order_graph.specs.Sets.{Has, IsBefore, AreNoted}
 use Rattle.order_graph.specs.Walks.{IsNext, IsNextBelow, IsWalk, ComesRound, IsFree, NoneFree, IsEarlier, IsPlacing}
 use Rattle.order_graph.proofs.Lists.{room, once_push, once_reverse}

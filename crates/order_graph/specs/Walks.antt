@@ -14,7 +14,7 @@
 --   NoneFree before left                before each object that is left another one is ordered
 --   IsEarlier before left next          for each object that is left the next one is left and ordered before it
 --   IsPlacing n before left objects     what isn't left, each once and after all that is ordered before it
-use Rattle.std.specs.Prelude.{◌≡◌, ◌≢◌, ◌↔◌, ℕ, ◌<◌, List, [], ◌∷◌, ◌++◌, slice_index, slice_index_or, Option, Some, None, IsSome, All, Contains}
+use Rattle.std.specs.Prelude.{◌≡◌, ◌≢◌, ◌↔◌, ℕ, ◌<◌, List, [], ◌∷◌, ◌++◌, slice_index, slice_index_or, Option, Some, None, IsSome, Contains}
 use Rattle.order_graph.specs.Orders.{IsOnce, EachNext, StandsBefore}
 use Rattle.order_graph.specs.Sets.{Has, IsBefore}
 

@@ -8,7 +8,7 @@
 //! `complete` answers an order (`IsOrder`) exactly where there is one, and a cycle (`IsSimpleCycle`) exactly where there
 //! is one. These words stand in `specs/Orders.antt`. No call takes memory, and the crate stands on no other.
 //!
-//! What comes before an object is a set of 16 bits (`specs/Sets.antt`), so a search meets each object once.
+//! What comes before an object is a set of 16 bits (`specs/Sets.antt`), so the cost doesn't grow with the orders held.
 //!
 //! The search for places stands on it: an order becomes the order of the plan, a cycle a leaf of the certificate.
 #![tactic(auto)]

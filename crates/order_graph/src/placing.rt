@@ -5,7 +5,7 @@ ghost use Rattle.order_graph.specs.Walks.{IsFree, NoneFree, IsEarlier};
 
 use crate::answers::{Cycle, Order};
 use crate::sets::{below, least, shared, with, without};
-use crate::way::{follow, Way};
+use crate::way::{Way, follow};
 
 /// The sets with more orders noted in them.
 pub fn noted(before: &[u16; 16], orders: &[(u32, u32)]) -> [u16; 16]

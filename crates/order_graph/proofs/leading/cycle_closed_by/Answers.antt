@@ -1,4 +1,4 @@
-use Rattle.std.proofs.Common.{arith, rules, ◌≡◌, ◌<◌, not, length, sym, ap, ◌∙◌, subst}
+use Rattle.std.proofs.Common.{arith, rules, ◌≡◌, not, length, sym, ap, ◌∙◌, subst}
 use Rattle.std.proofs.lemmas.Bool.{false≢true}
 use Rattle.order_graph.specs.Orders.{ClosesCycle}
 use Rattle.order_graph.proofs.LeadingLaws.{known_if_leads, known_within, no_ring, closes}

@@ -1,4 +1,4 @@
-use Rattle.order_graph.proofs.LeadingLaws.{at_goal, found, shut_one, all_known}
+use Rattle.order_graph.proofs.LeadingLaws.{at_goal, found, shut_one}
 use Rattle.order_graph.proofs.leading.next_towards.Goals as goal
 
 pub loop-b-init : goal.loop-b-init

@@ -1,4 +1,4 @@
-use Rattle.std.proofs.Common.{arith, ◌≡◌, ◌+◌, ◌<◌, List, ◌∷◌, ◌++◌, [], ℕ, length, get_or, set, take, sym, subst, ap, ◌∙◌, append_assoc, length-set, take_all}
+use Rattle.std.proofs.Common.{arith, ◌≡◌, ◌+◌, ◌∷◌, ◌++◌, [], get_or, set, take, sym, subst, ap, ◌∙◌, append_assoc, length-set, take_all}
 use Rattle.std.proofs.lemmas.List.{take_more}
 use Rattle.order_graph.specs.Sets.{AreNoted}
 use Rattle.order_graph.proofs.NoteLaws.{note_more}

@@ -33,8 +33,7 @@ invariant_of-self c =
     let kept : length g.former ≡ 256 = search rules in
     let place : g.len ≡ length held = omega (arith, is.0, length-take g.len g.held) in
     let room : g.len < 256 = omega arith in
-    let whole : held ++ (i, j) ∷ [] ≡ take (g.len + 1) (set g.held g.len (i, j)) = sym (take_more_set g.held g.len (i, j) (omega arith)) in
-    (
+    let whole : held ++ (i, j) ∷ [] ≡ take (g.len + 1) (set g.held g.len (i, j)) = sym (take_more_set g.held g.len (i, j) (omega arith)) in (
       omega arith,
       subst (IsGraph g.n) whole (graph_more g.n held i j is.1 (omega arith) (omega arith) c.requires.apart (c.in_default.ensures held is.2)),
       subst (λ xs. AreNoted xs (set g.before j c.with.result)) whole (note_more held g.before i j c.with.result (omega (arith, is.1.few)) is.2 c.with.ensures.same c.with.ensures.others),
