@@ -50,7 +50,8 @@ impl OrderGraph {
 
     /// Holds that `i` comes before `j`, unless `j` leads to `i` already.
     ///
-    /// At 16 objects the search for a way takes at most 31 turns, and the cycle is walked in at most 16 steps.
+    /// The search for a way takes at most 31 turns, and the walk along it 16 that look at 120 passed objects: fewer than 200
+    /// steps at 16 objects, however many orders are held.
     pub fn add(&mut self, i: u32, j: u32) -> Result<(), Cycle>
         requires first { i < self.old.objects }
         requires second { j < self.old.objects }
@@ -86,7 +87,8 @@ impl OrderGraph {
 
     /// Puts all objects in an order that keeps the held orders and the forced ones, or finds a cycle of these.
     ///
-    /// Reads the forced orders once, and then looks at sets of objects: at 16 objects at most 136 times for an order.
+    /// Reads the forced orders once. Besides, it takes fewer than 210 steps at 16 objects, however many orders are held: 136
+    /// looks for objects that can be placed, and fewer of these the longer a cycle is that has to be walked.
     pub fn complete(&self, forced: &[(u32, u32)]) -> Result<Order, Cycle>
         requires { AreAmong self.now.objects forced.now }
         ensures order { IfOk result (IsOrder self.now.objects (self.now.held ++ forced.now)) }
