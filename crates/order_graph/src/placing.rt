@@ -63,8 +63,8 @@ fn cycle_among(before: &[u16; 16], left: u16, start: u32) -> Cycle
 /// All `n` objects in an order that keeps the noted orders, or a cycle of these.
 ///
 /// The places are filled from the first to the last. For each the objects that are left are looked at until one is free:
-/// at 16 objects 16 looks, then 15, and so on, 136 at most. A cycle of m objects that are left takes 4 m steps more, and
-/// m (m + 1) / 2 looks at passed objects, but as many looks fewer at objects that are left.
+/// at 16 objects 16 looks, then 15, and so on, 136 at most. Where none is free, an object is followed by earlier ones until
+/// it comes round.
 pub fn order_of(n: u32, before: &[u16; 16]) -> Result<Order, Cycle>
     requires some { 1 ≤ n }
     requires few { n ≤ 16 }
