@@ -1,0 +1,4 @@
+//! The laws of mesh slices over the definitions.
+#![tactic(auto)]
+
+pub mod laws;
