@@ -1,4 +1,17 @@
-//! The laws of mesh slices over the definitions.
+//! Meshes, sliced into objects.
+//!
+//! `object` cuts a mesh into bands of the printer's band height and gives each band the convex outline of its spots. A zone
+//! is a longest run of bands with one outline. Its main clause says that each band with spots lies in exactly one zone, whose
+//! corners are the hull of these spots, that a band without spots lies in none, and that low and high are the extremes over
+//! all bands.
+//!
+//! It stands between the mesh as it was read and the search, which sees objects by their zones alone. `specs/Objects.antt`
+//! has the words of the contract.
 #![tactic(auto)]
 
 pub mod laws;
+mod objects;
+mod slice;
+
+pub use objects::object;
+pub use slice::Slice;
