@@ -7,11 +7,10 @@
 --   valid_back         a plan that is valid for one scene is valid for one that agrees
 --   same_plans         the same plans are valid
 --   same_least         and the same extents are least
-use Rattle.std.proofs.Common.{◌≡◌, ◌<◌, ℕ, List, [], ◌∷◌, length, All, AllPairs, Contains, refl, sym, subst, ap, arith, ℤ, pos, neg_ℤ, ◌+ℤ◌, ◌-ℤ◌, ◌*ℤ◌, ◌≤ℤ◌, inl, inr}
-use Rattle.std.specs.Prelude.{◌↔◌, MatchOption, slice_index_or, ◌≤◌, ◌+◌}
+use Rattle.std.proofs.Common.{◌≡◌, ◌<◌, ℕ, List, [], ◌∷◌, All, refl, sym, subst, arith, ℤ, pos, neg_ℤ, ◌+ℤ◌, ◌-ℤ◌, ◌*ℤ◌, ◌≤ℤ◌, inl, inr}
+use Rattle.std.specs.Prelude.{◌↔◌, MatchOption, ◌≤◌, ◌+◌}
 use Rattle.std.specs.List.{AllZip}
 use Rattle.std.proofs.lemmas.Int.{ints}
-use Rattle.std.proofs.lemmas.List.Elements.{Contains-get_or, All-contains}
 use Rattle.integer_laws.specs.Ring.{expand}
 use Rattle.integer_laws.specs.Order.{le_from}
 use Rattle.integer_laws.specs.Members.{In, All-in, All-from_in, In-from_contains, Contains-from_in}
@@ -20,9 +19,9 @@ use Rattle.seq_model.specs.declared.plan.Plan.{Plan}
 use Rattle.seq_model.specs.declared.plate.Region.{Region}
 use Rattle.seq_model.specs.declared.printer.Part.{Part}
 use Rattle.seq_model.specs.declared.printer.Spot.{Spot}
-use Rattle.seq_model.specs.Outlines.{Inner, Within}
+use Rattle.seq_model.specs.Outlines.{Within}
 use Rattle.seq_model.specs.Plates.{region_of}
-use Rattle.seq_model.specs.Points.{Point, place_point}
+use Rattle.seq_model.specs.Points.{Point}
 use Rattle.seq_model.specs.Scenes.{Scene, LiesIn, Overlap, Collides, Meets, Valid, Least}
 use Rattle.convex_outline.specs.Corners.{at_spot}
 use Rattle.convex_outline.specs.Means.{within_at_most}
@@ -30,7 +29,7 @@ use Rattle.mesh_slices.specs.Agreement.{SameOutline, SamePart, Agree}
 
 -- ---- outlines
 pub outline_back : {A B : List Spot} → SameOutline A B → SameOutline B A
-outline_back o = record { inner = λ q. ((o.inner q).1, (o.inner q).0); within_other = o.other_within; other_within = o.within_other }
+outline_back o = record { inner = λ q. ((o.inner q).1, (o.inner q).0); within_second = o.within_first; within_first = o.within_second }
 
 -- a bound of a spot along one axis, as a height
 bound : (x y g : ℤ) (S : List Spot) (s : Spot) → ((t : Spot) → In t S → (x *ℤ t.x +ℤ y *ℤ t.y) ≤ℤ g) → Within S (at_spot s) → (x *ℤ s.x +ℤ y *ℤ s.y) ≤ℤ g
@@ -76,7 +75,7 @@ lies_in_back region scale place S s all w =
     north_is n x y p l h = le_from h (simp expand (omega (arith, ints)))
 
 pub all_lie_in : (region : Region) (scale : ℤ) (place : Place) (S T : List Spot) → SameOutline S T → All (LiesIn region scale place) S → All (LiesIn region scale place) T
-all_lie_in region scale place S T o all = All-from_in (LiesIn region scale place) T (λ t i. lies_in_back region scale place S t all (All-in (λ s. Within S (at_spot s)) T t o.other_within i))
+all_lie_in region scale place S T o all = All-from_in (LiesIn region scale place) T (λ t i. lies_in_back region scale place S t all (All-in (λ s. Within S (at_spot s)) T t o.within_first i))
 
 -- ---- parts
 record Partner (ps : List Part) (q : Part) : Type 0 where

@@ -1,3 +1,4 @@
 pub mod Objects
 pub mod Agreement
 pub mod Agreeing
+pub mod AgreeingJobs
