@@ -2,3 +2,5 @@ pub mod Objects
 pub mod Agreement
 pub mod Agreeing
 pub mod AgreeingJobs
+pub mod Cover
+pub mod Covering
