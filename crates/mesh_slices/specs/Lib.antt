@@ -4,3 +4,5 @@ pub mod Agreeing
 pub mod AgreeingJobs
 pub mod Cover
 pub mod Covering
+pub mod CoveringSpots
+pub mod CoveringEdges
