@@ -6,16 +6,18 @@
 --   cone_part          a fraction of a multiple of one is one
 --   cone_member        a member is one
 --   cone_through       what is in the cone of members of another cone is in that one, over a common grain
---   cone_subset        and what is in the cone of some members is in the cone of all
+--   cone_in            and without a grain
+--   cone_subset        what is in the cone of some members is in the cone of all
 --   cone_within        a point within spots is in their cone
 --   within_cone        and the other way
-use Rattle.std.proofs.Common.{◌≡◌, ◌∙◌, List, [], ◌∷◌, map, length, refl, ap, sym, subst, arith, ℤ, pos, neg_ℤ, ◌+ℤ◌, ◌-ℤ◌, ◌*ℤ◌, ◌≤ℤ◌, ◌<ℤ◌, inl, inr}
+--   within_within      what is within a list whose members are within another is within that one
+use Rattle.std.proofs.Common.{◌≡◌, ◌∙◌, List, [], ◌∷◌, map, All, refl, sym, subst, arith, ℤ, pos, neg_ℤ, ◌+ℤ◌, ◌-ℤ◌, ◌*ℤ◌, ◌≤ℤ◌, ◌<ℤ◌, inl, inr}
 use Rattle.std.proofs.lemmas.Int.{ints}
 use Rattle.integer_laws.specs.Ring.{expand, mul-zero}
 use Rattle.integer_laws.specs.Order.{le_of_same, add_same, mul_same, same_from, mul_nonneg, mul_positive}
 use Rattle.integer_laws.specs.Vectors.{plus, scale}
 use Rattle.integer_laws.specs.Weights.{AreWeights, weigh, total, weigh-plus, weigh-scale, weigh-map, weights_plus, weights_scale, weights_map, weights_weaker}
-use Rattle.integer_laws.specs.Members.{In}
+use Rattle.integer_laws.specs.Members.{In, All-in, In-map_cases}
 use Rattle.seq_model.specs.declared.printer.Spot.{Spot}
 use Rattle.seq_model.specs.Outlines.{Within}
 use Rattle.seq_model.specs.Points.{Point, IsPoint}
@@ -156,11 +158,14 @@ cone_through S T g x y t each i =
     grains : (m t r : ℤ) → m *ℤ t ≡ r → m *ℤ (t *ℤ g) ≡ pos 1 *ℤ (r *ℤ g)
     grains m t r e = same_from (mul_same g e) (simp expand (omega (arith, ints)))
 
-pub cone_subset : (S T : List Point) (x y t : ℤ) → ((p : Point) → In p S → In p T) → InCone S x y t → InCone T x y t
-cone_subset S T x y t sub i = subst (InCone T x y) (one t) (cone_through S T (pos 1) x y t (λ p k. subst (InCone T p.x p.y) (sym (one p.d)) (cone_member T p (sub p k))) i)
+pub cone_in : (S T : List Point) (x y t : ℤ) → ((p : Point) → In p S → InCone T p.x p.y p.d) → InCone S x y t → InCone T x y t
+cone_in S T x y t each i = subst (InCone T x y) (one t) (cone_through S T (pos 1) x y t (λ p k. subst (InCone T p.x p.y) (sym (one p.d)) (each p k)) i)
   where
     one : (n : ℤ) → n *ℤ pos 1 ≡ n
     one n = omega (arith, ints)
+
+pub cone_subset : (S T : List Point) (x y t : ℤ) → ((p : Point) → In p S → In p T) → InCone S x y t → InCone T x y t
+cone_subset S T x y t sub = cone_in S T x y t (λ p k. cone_member T p (sub p k))
 
 -- ---- spots
 pub cone_within : (S : List Spot) (q : Point) → Within S q → InCone (map at_spot S) q.x q.y q.d
@@ -208,3 +213,12 @@ within_cone S q is i =
   where
     mean : (m d x w t : ℤ) → m *ℤ x ≡ w → m *ℤ d ≡ t → d *ℤ w ≡ x *ℤ t
     mean m d x w t e f = same_from (add_same (mul_same x f) (mul_same (neg_ℤ d) e)) (simp expand (omega (arith, ints)))
+
+-- what is within members of the hull is within the hull
+pub within_within : (S C : List Spot) (q : Point) → All (λ s. Within C (at_spot s)) S → Within S q → Within C q
+within_within S C q all v = within_cone C q v.point (cone_in (map at_spot S) (map at_spot C) q.x q.y q.d each (cone_within S q v))
+  where
+    each : (p : Point) → In p (map at_spot S) → InCone (map at_spot C) p.x p.y p.d
+    each p i =
+        let s = In-map_cases at_spot S p i in
+        subst (λ r. InCone (map at_spot C) r.x r.y r.d) (sym s.2) (cone_within C (at_spot s.0) (All-in (λ t. Within C (at_spot t)) S s.0 all s.1))

@@ -6,3 +6,5 @@ pub mod Cover
 pub mod Covering
 pub mod CoveringSpots
 pub mod CoveringEdges
+pub mod CoveringFacets
+pub mod CoveringMeshes
