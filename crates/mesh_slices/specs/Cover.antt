@@ -6,14 +6,17 @@
 --   LiesInBand facets step b q    the height of q is that of band b, where the least z of the mesh is 0
 --   in_grains g q                 the point of the plane below q, in grains of g µm
 --   Covers facets g step b S      each point of a facet that lies in band b is, in grains, within S
+--   LiesInZone zones b q          band b lies in one of the zones, and q within its corners
 use Rattle.std.specs.Prelude.{ℕ, ℤ, pos, ◌+ℤ◌, ◌*ℤ◌, ◌≤ℤ◌, ◌≡◌, List, [], ◌∷◌, Contains}
 use Rattle.integer_laws.specs.Weights.{AreWeights, weigh, total}
+use Rattle.seq_model.specs.declared.job.Zone.{Zone}
 use Rattle.seq_model.specs.declared.mesh.Facet.{Facet}
 use Rattle.seq_model.specs.declared.mesh.Point3.{Point3}
 use Rattle.seq_model.specs.declared.printer.Spot.{Spot}
 use Rattle.seq_model.specs.Bands.{least_z}
 use Rattle.seq_model.specs.Outlines.{Within}
 use Rattle.seq_model.specs.Points.{Point}
+use Rattle.mesh_slices.specs.Objects.{HoldsBand}
 
 -- the point x / d, y / d, z / d of space
 pub record SpacePoint : Type 0 where
@@ -46,3 +49,10 @@ in_grains grain q = record { x = q.x; y = q.y; d = q.d *ℤ grain }
 -- no point of the mesh in band b lies outside S
 pub record Covers (facets : List Facet) (grain step : ℤ) (b : ℕ) (S : List Spot) : Type 0 where
   pub each : (f : Facet) (q : SpacePoint) → Contains facets f → IsOn f q → LiesInBand facets step b q → Within S (in_grains grain q)
+
+-- a zone holds the band, and the point lies within its corners
+pub record LiesInZone (zones : List Zone) (b : ℕ) (q : Point) : Type 0 where
+  pub zone : Zone
+  pub member : Contains zones zone
+  pub holds : HoldsBand b zone
+  pub within : Within zone.corners q

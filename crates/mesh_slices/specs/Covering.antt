@@ -11,7 +11,7 @@
 --   cone_within        a point within spots is in their cone
 --   within_cone        and the other way
 --   within_within      what is within a list whose members are within another is within that one
-use Rattle.std.proofs.Common.{◌≡◌, ◌∙◌, List, [], ◌∷◌, map, All, refl, sym, subst, arith, ℤ, pos, neg_ℤ, ◌+ℤ◌, ◌-ℤ◌, ◌*ℤ◌, ◌≤ℤ◌, ◌<ℤ◌, inl, inr}
+use Rattle.std.proofs.Common.{◌≡◌, ◌∙◌, List, [], ◌∷◌, map, All, refl, sym, subst, arith, ℤ, pos, neg_ℤ, ◌+ℤ◌, ◌*ℤ◌, ◌≤ℤ◌, ◌<ℤ◌, inl, inr}
 use Rattle.std.proofs.lemmas.Int.{ints}
 use Rattle.integer_laws.specs.Ring.{expand, mul-zero}
 use Rattle.integer_laws.specs.Order.{le_of_same, add_same, mul_same, same_from, mul_nonneg, mul_positive}

@@ -6,10 +6,10 @@
 --   Crossing C h p q         and so is the crossing with the height h, if p lies below h and q above it
 --   Edge C low high p q      and so is each point of the edge that lies in the slab
 --   edge                     an edge is one, if its ends and its crossings are
-use Rattle.std.proofs.Common.{◌≡◌, List, sym, subst, arith, ℤ, pos, ◌+ℤ◌, ◌-ℤ◌, ◌*ℤ◌, ◌≤ℤ◌, ◌<ℤ◌}
+use Rattle.std.proofs.Common.{◌≡◌, List, sym, arith, ℤ, pos, ◌+ℤ◌, ◌-ℤ◌, ◌*ℤ◌, ◌≤ℤ◌, ◌<ℤ◌}
 use Rattle.std.proofs.lemmas.Int.{ints, by_lt_z}
 use Rattle.integer_laws.specs.Ring.{expand}
-use Rattle.integer_laws.specs.Order.{le_from, lt_from, same_from, le_of_same, add_le, add_lt_le, add_le_lt, add_same, mul_le, mul_lt, mul_same, mul_nonneg, mul_positive, cancel_le}
+use Rattle.integer_laws.specs.Order.{le_from, lt_from, same_from, le_of_same, add_le, add_lt_le, add_le_lt, add_same, mul_le, mul_lt, mul_same, mul_positive, cancel_le}
 use Rattle.seq_model.specs.declared.mesh.Point3.{Point3}
 use Rattle.seq_model.specs.Points.{Point}
 use Rattle.mesh_slices.specs.Covering.{InCone, cone_zero, cone_sum, cone_part}
@@ -55,7 +55,7 @@ at_end C p q u w h e vertex =
     by_lt_z (pos 0) u
     (λ some. cone_part C (pos 1) u p.x p.y (pos 1) (u *ℤ p.x +ℤ w *ℤ q.x) (u *ℤ p.y +ℤ w *ℤ q.y) (u +ℤ w) (omega (arith, ints)) h (vertex some) (alone p.x q.x) (alone p.y q.y) (omega (arith, ints)))
     (λ none. let z : u ≡ pos 0 = omega (arith, ints) in
-        cone_part C (pos 1) (pos 1) (pos 0) (pos 0) (pos 0) (u *ℤ p.x +ℤ w *ℤ q.x) (u *ℤ p.y +ℤ w *ℤ q.y) (u +ℤ w) (omega (arith, ints)) (omega (arith, ints)) (cone_zero C) (nothing p.x q.x z) (nothing p.y q.y z) (omega (arith, ints)))
+    cone_part C (pos 1) (pos 1) (pos 0) (pos 0) (pos 0) (u *ℤ p.x +ℤ w *ℤ q.x) (u *ℤ p.y +ℤ w *ℤ q.y) (u +ℤ w) (omega (arith, ints)) (omega (arith, ints)) (cone_zero C) (nothing p.x q.x z) (nothing p.y q.y z) (omega (arith, ints)))
   where
     alone : (a b : ℤ) → pos 1 *ℤ (u *ℤ a +ℤ w *ℤ b) ≡ u *ℤ a
     alone a b = same_from (mul_same b e) (simp expand (omega (arith, ints)))

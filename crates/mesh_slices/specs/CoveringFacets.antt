@@ -96,13 +96,13 @@ all_zero x y z h k l e = (omega (arith, ints), omega (arith, ints), omega (arith
 none_below : (C : List Point) (low high : ℤ) (a b c : Point3) (u v w S Z : ℤ) → Facing C low high a b c u v w S Z → Z ≤ℤ (S *ℤ a.z) → Z ≤ℤ (S *ℤ b.z) → Z ≤ℤ (S *ℤ c.z) → Mean C a b c u v w
 none_below C low high a b c u v w S Z f ha hb hc =
     let zero = all_zero (u *ℤ (S *ℤ a.z -ℤ Z)) (v *ℤ (S *ℤ b.z -ℤ Z)) (w *ℤ (S *ℤ c.z -ℤ Z)) (mul_nonneg u (S *ℤ a.z -ℤ Z) f.u_least (at_least ha)) (mul_nonneg v (S *ℤ b.z -ℤ Z) f.v_least (at_least hb)) (mul_nonneg w (S *ℤ c.z -ℤ Z) f.w_least (at_least hc))
-        (balance C low high a b c u v w S Z f) in
+    (balance C low high a b c u v w S Z f) in
     flat C low high a b c u v w S Z f zero.0 zero.1 zero.2
 
 none_above : (C : List Point) (low high : ℤ) (a b c : Point3) (u v w S Z : ℤ) → Facing C low high a b c u v w S Z → (S *ℤ a.z) ≤ℤ Z → (S *ℤ b.z) ≤ℤ Z → (S *ℤ c.z) ≤ℤ Z → Mean C a b c u v w
 none_above C low high a b c u v w S Z f ha hb hc =
     let zero = all_zero (u *ℤ (Z -ℤ S *ℤ a.z)) (v *ℤ (Z -ℤ S *ℤ b.z)) (w *ℤ (Z -ℤ S *ℤ c.z)) (mul_nonneg u (Z -ℤ S *ℤ a.z) f.u_least (at_least ha)) (mul_nonneg v (Z -ℤ S *ℤ b.z) f.v_least (at_least hb)) (mul_nonneg w (Z -ℤ S *ℤ c.z) f.w_least (at_least hc))
-        (same_from (mul_same (neg_ℤ (pos 1)) (balance C low high a b c u v w S Z f)) (simp expand (omega (arith, ints)))) in
+    (same_from (mul_same (neg_ℤ (pos 1)) (balance C low high a b c u v w S Z f)) (simp expand (omega (arith, ints)))) in
     flat C low high a b c u v w S Z f (turned u a.z zero.0) (turned v b.z zero.1) (turned w c.z zero.2)
   where
     turned : (u r : ℤ) → u *ℤ (Z -ℤ S *ℤ r) ≡ pos 0 → u *ℤ (S *ℤ r -ℤ Z) ≡ pos 0
@@ -113,9 +113,9 @@ both_above : (C : List Point) (low high : ℤ) (a b c : Point3) (u v w S Z : ℤ
 both_above C low high a b c u v w S Z f hb hc =
     by_lt_z (S *ℤ a.z) Z
     (λ h. apex C a b c (Z -ℤ S *ℤ a.z) (S *ℤ b.z -ℤ Z) (S *ℤ c.z -ℤ Z) u v w (less h) f.v_least f.w_least
-        (same_from (add_same (mul_same S f.height) (mul_same Z (sym f.sum))) (simp expand (omega (arith, ints))))
-        (at_level C low high a b S Z (S *ℤ b.z -ℤ Z) (Z -ℤ S *ℤ a.z) f.ab f.some f.from f.to (at_least hb) (at_least (le_of h)) (on a.z b.z))
-        (at_level C low high a c S Z (S *ℤ c.z -ℤ Z) (Z -ℤ S *ℤ a.z) f.ac f.some f.from f.to (at_least hc) (at_least (le_of h)) (on a.z c.z)))
+    (same_from (add_same (mul_same S f.height) (mul_same Z (sym f.sum))) (simp expand (omega (arith, ints))))
+    (at_level C low high a b S Z (S *ℤ b.z -ℤ Z) (Z -ℤ S *ℤ a.z) f.ab f.some f.from f.to (at_least hb) (at_least (le_of h)) (on a.z b.z))
+    (at_level C low high a c S Z (S *ℤ c.z -ℤ Z) (Z -ℤ S *ℤ a.z) f.ac f.some f.from f.to (at_least hc) (at_least (le_of h)) (on a.z c.z)))
     (λ h. none_below C low high a b c u v w S Z f h hb hc)
   where
     on : (r s : ℤ) → S *ℤ ((S *ℤ s -ℤ Z) *ℤ r +ℤ (Z -ℤ S *ℤ r) *ℤ s) ≡ Z *ℤ ((S *ℤ s -ℤ Z) +ℤ (Z -ℤ S *ℤ r))
@@ -125,9 +125,9 @@ both_below : (C : List Point) (low high : ℤ) (a b c : Point3) (u v w S Z : ℤ
 both_below C low high a b c u v w S Z f hb hc =
     by_lt_z Z (S *ℤ a.z)
     (λ h. apex C a b c (S *ℤ a.z -ℤ Z) (Z -ℤ S *ℤ b.z) (Z -ℤ S *ℤ c.z) u v w (less h) f.v_least f.w_least
-        (same_from (add_same (mul_same S (sym f.height)) (mul_same Z f.sum)) (simp expand (omega (arith, ints))))
-        (at_level C low high a b S Z (Z -ℤ S *ℤ b.z) (S *ℤ a.z -ℤ Z) f.ab f.some f.from f.to (at_least hb) (at_least (le_of h)) (on a.z b.z))
-        (at_level C low high a c S Z (Z -ℤ S *ℤ c.z) (S *ℤ a.z -ℤ Z) f.ac f.some f.from f.to (at_least hc) (at_least (le_of h)) (on a.z c.z)))
+    (same_from (add_same (mul_same S (sym f.height)) (mul_same Z f.sum)) (simp expand (omega (arith, ints))))
+    (at_level C low high a b S Z (Z -ℤ S *ℤ b.z) (S *ℤ a.z -ℤ Z) f.ab f.some f.from f.to (at_least hb) (at_least (le_of h)) (on a.z b.z))
+    (at_level C low high a c S Z (Z -ℤ S *ℤ c.z) (S *ℤ a.z -ℤ Z) f.ac f.some f.from f.to (at_least hc) (at_least (le_of h)) (on a.z c.z)))
     (λ h. none_above C low high a b c u v w S Z f h hb hc)
   where
     on : (r s : ℤ) → S *ℤ ((Z -ℤ S *ℤ s) *ℤ r +ℤ (S *ℤ r -ℤ Z) *ℤ s) ≡ Z *ℤ ((Z -ℤ S *ℤ s) +ℤ (S *ℤ r -ℤ Z))
@@ -169,12 +169,12 @@ triangle C low high a b c u v w S Z f =
     let by_c : Mean C c a b w u v → Mean C a b c u v w = λ m. mean_back C a b c u v w (mean_back C b c a v w u m) in
     by_lt_z Z (S *ℤ b.z)
     (λ b_above. by_lt_z Z (S *ℤ c.z)
-        (λ c_above. both_above C low high a b c u v w S Z f (le_of b_above) (le_of c_above))
-        (λ c_below. by_lt_z Z (S *ℤ a.z)
-            (λ a_above. by_c (both_above C low high c a b w u v S Z h (le_of a_above) (le_of b_above)))
-            (λ a_below. by_b (both_below C low high b c a v w u S Z g c_below a_below))))
+    (λ c_above. both_above C low high a b c u v w S Z f (le_of b_above) (le_of c_above))
+    (λ c_below. by_lt_z Z (S *ℤ a.z)
+    (λ a_above. by_c (both_above C low high c a b w u v S Z h (le_of a_above) (le_of b_above)))
+    (λ a_below. by_b (both_below C low high b c a v w u S Z g c_below a_below))))
     (λ b_below. by_lt_z Z (S *ℤ c.z)
-        (λ c_above. by_lt_z Z (S *ℤ a.z)
-            (λ a_above. by_b (both_above C low high b c a v w u S Z g (le_of c_above) (le_of a_above)))
-            (λ a_below. by_c (both_below C low high c a b w u v S Z h a_below b_below)))
-        (λ c_below. both_below C low high a b c u v w S Z f b_below c_below))
+    (λ c_above. by_lt_z Z (S *ℤ a.z)
+    (λ a_above. by_b (both_above C low high b c a v w u S Z g (le_of c_above) (le_of a_above)))
+    (λ a_below. by_c (both_below C low high c a b w u v S Z h a_below b_below)))
+    (λ c_below. both_below C low high a b c u v w S Z f b_below c_below))

@@ -6,26 +6,31 @@
 --   point_in_slab       a point of a facet in the slab is in the cone of the facet's corner points
 --   spots_cover         the spots of a band cover it
 --   outline_covers      and so does what has the spots within it
-use Rattle.std.proofs.Common.{◌≡◌, ℕ, Bool, true, false, T, ◌&&◌, if◌then◌else◌, List, [], ◌∷◌, ◌++◌, map, All, Contains, refl, sym, subst, arith, ℤ, pos, ◌+ℤ◌, ◌-ℤ◌, ◌*ℤ◌, ◌≤ℤ◌, ◌<ℤ◌, inl, inr}
+--   zones_cover         a point of the mesh in a band lies within the corners of a zone that holds the band
+use Rattle.std.proofs.Common.{◌≡◌, ◌<◌, ℕ, Bool, true, false, T, ◌&&◌, if◌then◌else◌, List, [], ◌∷◌, ◌++◌, All, Contains, refl, sym, subst, arith, ℤ, pos, ◌+ℤ◌, ◌-ℤ◌, ◌*ℤ◌, ◌≤ℤ◌, ◌<ℤ◌, inl, inr}
 use Rattle.std.specs.Int.Signed.{le_z, lt_z, lt_z_yes}
 use Rattle.std.proofs.lemmas.Int.{ints}
 use Rattle.std.proofs.lemmas.Bool.{true≢false}
 use Rattle.integer_laws.specs.Ring.{expand}
-use Rattle.integer_laws.specs.Order.{le_from, same_from, le_of_same, add_le, mul_le, mul_same, mul_positive, cancel_le}
+use Rattle.integer_laws.specs.Order.{le_from, same_from, le_of_same, add_le, mul_le, mul_positive, cancel_le}
 use Rattle.integer_laws.specs.Weights.{AreWeights, weigh, total}
-use Rattle.integer_laws.specs.Members.{In, All-in, In-from_contains, In-append_left, In-append_right, In-append_cases, In-map_cases}
+use Rattle.integer_laws.specs.Members.{In, In-from_contains, In-append_left, In-append_right, In-append_cases}
+use Rattle.seq_model.specs.declared.job.Object.{Object}
 use Rattle.seq_model.specs.declared.mesh.Facet.{Facet}
 use Rattle.seq_model.specs.declared.mesh.Point3.{Point3}
+use Rattle.seq_model.specs.declared.printer.Printer.{Printer}
 use Rattle.seq_model.specs.declared.printer.Spot.{Spot}
 use Rattle.seq_model.specs.Bands.{vertex_in, crossing_up, crossing, crossings, facet_corners, corners, least_z}
 use Rattle.seq_model.specs.Outlines.{spots, Within}
-use Rattle.seq_model.specs.Points.{Point, IsPoint}
+use Rattle.seq_model.specs.Points.{Point}
 use Rattle.convex_outline.specs.Corners.{at_spot}
-use Rattle.mesh_slices.specs.Cover.{SpacePoint, three, IsOn, LiesInBand, in_grains, Covers}
+use Rattle.mesh_slices.specs.Agreement.{HasZonesOf}
+use Rattle.mesh_slices.specs.Cover.{SpacePoint, three, IsOn, LiesInBand, in_grains, Covers, LiesInZone}
 use Rattle.mesh_slices.specs.Covering.{InCone, cone_part, cone_member, within_cone, within_within}
 use Rattle.mesh_slices.specs.CoveringSpots.{in_flat, in_spots}
-use Rattle.mesh_slices.specs.CoveringEdges.{Vertex, Crossing, Edge, edge, edge_back}
-use Rattle.mesh_slices.specs.CoveringFacets.{Facing, Mean, triangle}
+use Rattle.mesh_slices.specs.CoveringEdges.{Edge, edge, edge_back}
+use Rattle.mesh_slices.specs.CoveringFacets.{Facing, triangle}
+use Rattle.mesh_slices.specs.Objects.{spots_in}
 
 -- ---- what is a corner point
 passes : (b : Bool) → T b → b ≡ true
@@ -230,3 +235,18 @@ spots_cover facets grain step margin b g h m = record { each = each }
 
 pub outline_covers : (facets : List Facet) (grain step : ℤ) (b : ℕ) (S C : List Spot) → Covers facets grain step b S → All (λ s. Within C (at_spot s)) S → Covers facets grain step b C
 outline_covers facets grain step b S C covers within = record { each = λ f q c on band. within_within S C (in_grains grain q) within (covers.each f q c on band) }
+
+none_within : (q : Point) → Within [] q → ⊥
+none_within q v = let some = v.some in omega (arith, ints)
+
+pub zones_cover : (printer : Printer) (facets : List Facet) (o : Object) → HasZonesOf printer facets o → (b : ℕ) → b < o.bands → (f : Facet) (q : SpacePoint) → Contains facets f → IsOn f q → LiesInBand facets printer.step b q
+    → LiesInZone o.zones b (in_grains printer.grain q)
+zones_cover printer facets o has b h f q c on band =
+    let ranged = printer.ranged in
+    let S = spots_in printer facets b in
+    let v = (spots_cover facets printer.grain printer.step printer.margin b (at_least_one ranged.grain_low) (at_least_one ranged.step_low) ranged.margin_low).each f q c on band in
+    let one = has.zones.with_spots b h (λ e. none_within (in_grains printer.grain q) (subst (λ T. Within T (in_grains printer.grain q)) e v)) in
+    record { zone = one.zone; member = one.member; holds = one.holds; within = within_within S one.zone.corners (in_grains printer.grain q) one.outline.within v }
+  where
+    at_least_one : {n : ℤ} → pos 10 ≤ℤ n → pos 1 ≤ℤ n
+    at_least_one h = omega (arith, ints)

@@ -5,13 +5,12 @@
 --   in_four_spots      a corner point, in grains, lies in the cone of its four spots
 --   in_flat            a member of what a member gives is one of what all give
 --   in_spots           what lies in the cone of corner points lies, in grains, in the cone of their spots
-use Rattle.std.proofs.Common.{◌≡◌, List, [], ◌∷◌, ◌++◌, map, flat_map, ap, arith, ℤ, pos, ◌+ℤ◌, ◌-ℤ◌, ◌*ℤ◌, ◌≤ℤ◌, ◌<ℤ◌, inl, inr, subst, sym}
+use Rattle.std.proofs.Common.{◌≡◌, List, [], ◌∷◌, map, flat_map, arith, ℤ, pos, ◌+ℤ◌, ◌-ℤ◌, ◌*ℤ◌, ◌≤ℤ◌, ◌<ℤ◌, inl, inr, subst, sym}
 use Rattle.std.proofs.lemmas.Int.{ints}
 use Rattle.integer_laws.specs.Ring.{expand}
-use Rattle.integer_laws.specs.Order.{le_from, add_le, mul_le, mul_nonneg, mul_positive}
+use Rattle.integer_laws.specs.Order.{le_from, add_le, mul_nonneg, mul_positive}
 use Rattle.integer_laws.specs.Quotients.{floor, ceil, floor_is, ceil_is, floor_le_ceil}
 use Rattle.integer_laws.specs.Members.{In, In-append_left, In-append_right, In-map, In-map_cases}
-use Rattle.seq_model.specs.declared.printer.Spot.{Spot}
 use Rattle.seq_model.specs.Outlines.{below, above, four_spots, spots}
 use Rattle.seq_model.specs.Points.{Point}
 use Rattle.convex_outline.specs.Corners.{at_spot}
