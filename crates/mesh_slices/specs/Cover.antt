@@ -4,16 +4,17 @@
 --   three f                       the corners of a facet
 --   IsOn f q                      q is a point of the facet: a mean of its corners, with weights of at least 0, not all 0
 --   LiesInBand facets step b q    the height of q is that of band b, where the least z of the mesh is 0
+--   HasBand facets step q         the mesh has a band with the height of q
 --   in_grains g q                 the point of the plane below q, in grains of g µm
 --   Covers facets g step b S      each point of a facet that lies in band b is, in grains, within S
 --   LiesInZone zones b q          band b lies in one of the zones, and q within its corners
-use Rattle.std.specs.Prelude.{ℕ, ℤ, pos, ◌+ℤ◌, ◌*ℤ◌, ◌≤ℤ◌, ◌≡◌, List, [], ◌∷◌, Contains}
+use Rattle.std.specs.Prelude.{ℕ, ◌<◌, ℤ, pos, ◌+ℤ◌, ◌*ℤ◌, ◌≤ℤ◌, ◌≡◌, List, [], ◌∷◌, Contains}
 use Rattle.integer_laws.specs.Weights.{AreWeights, weigh, total}
 use Rattle.seq_model.specs.declared.job.Zone.{Zone}
 use Rattle.seq_model.specs.declared.mesh.Facet.{Facet}
 use Rattle.seq_model.specs.declared.mesh.Point3.{Point3}
 use Rattle.seq_model.specs.declared.printer.Spot.{Spot}
-use Rattle.seq_model.specs.Bands.{least_z}
+use Rattle.seq_model.specs.Bands.{least_z, band_count}
 use Rattle.seq_model.specs.Outlines.{Within}
 use Rattle.seq_model.specs.Points.{Point}
 use Rattle.mesh_slices.specs.Objects.{HoldsBand}
@@ -42,6 +43,12 @@ pub record IsOn (f : Facet) (q : SpacePoint) : Type 0 where
 pub record LiesInBand (facets : List Facet) (step : ℤ) (b : ℕ) (q : SpacePoint) : Type 0 where
   pub from : ((least_z facets +ℤ step *ℤ pos b) *ℤ q.d) ≤ℤ q.z
   pub to : q.z ≤ℤ ((least_z facets +ℤ step *ℤ pos b +ℤ step) *ℤ q.d)
+
+-- one of the bands of the mesh has the height of q
+pub record HasBand (facets : List Facet) (step : ℤ) (q : SpacePoint) : Type 0 where
+  pub band : ℕ
+  pub below_count : band < band_count facets step
+  pub lies : LiesInBand facets step band q
 
 abbrev pub in_grains : ℤ → SpacePoint → Point
 in_grains grain q = record { x = q.x; y = q.y; d = q.d *ℤ grain }

@@ -8,3 +8,4 @@ pub mod CoveringSpots
 pub mod CoveringEdges
 pub mod CoveringFacets
 pub mod CoveringMeshes
+pub mod CoveringHeights

@@ -14,7 +14,7 @@ ghost use Rattle.seq_model.specs.Outlines.{spots, Within};
 ghost use Rattle.seq_model.specs.Scenes.{Scene, Valid, Least, scene_of_files, description_of};
 ghost use Rattle.convex_outline.specs.Corners.{at_spot};
 ghost use Rattle.mesh_slices.specs.Agreement.{Agree, HasZonesOf, IsMadeFrom};
-ghost use Rattle.mesh_slices.specs.Cover.{SpacePoint, IsOn, LiesInBand, in_grains, Covers, LiesInZone};
+ghost use Rattle.mesh_slices.specs.Cover.{SpacePoint, IsOn, LiesInBand, HasBand, in_grains, Covers, LiesInZone};
 
 /// Scenes that agree have the same valid plans.
 pub fn scenes_that_agree_have_the_same_valid_plans()
@@ -54,6 +54,11 @@ pub fn the_spots_of_a_band_cover_it()
 pub fn what_holds_the_spots_covers_the_band()
     ensures { (facets : List Facet) (grain step : ℤ) (b : ℕ) (list outline : List Spot) → Covers facets grain step b list → All (λ s. Within outline (at_spot s)) list
         → Covers facets grain step b outline }
+{}
+
+/// Each point of a facet has the height of one of the bands of its mesh.
+pub fn each_point_of_a_mesh_has_a_band()
+    ensures { (facets : List Facet) (step : ℤ) (f : Facet) (q : SpacePoint) → pos 1 ≤ℤ step → Contains facets f → IsOn f q → HasBand facets step q }
 {}
 
 /// No point of a mesh in a band is lost: it lies, in grains, within the corners of the zone that holds the band.
