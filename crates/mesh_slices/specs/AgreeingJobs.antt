@@ -2,6 +2,7 @@
 --
 --   outline_itself     a list has the outline that it has
 --   outline_of         and that of its corners
+--   parts_themselves   parts are the same as themselves, where a printer keeps them as they are listed
 --   zones_of           what the contract of an object says of its zones
 --   held, free         the zones that hold a band have the outline of its spots, and where none does it has no spots
 --   agree_with_job     the scene of the files agrees with that of the job
@@ -25,7 +26,7 @@ use Rattle.seq_model.specs.Outlines.{Within}
 use Rattle.seq_model.specs.Scenes.{Valid, Least, scene_of_files, description_of, facets_of}
 use Rattle.convex_outline.specs.Corners.{at_spot}
 use Rattle.convex_outline.specs.Means.{member_within}
-use Rattle.mesh_slices.specs.Agreement.{SameOutline, Agree, HasZonesOf, IsMadeFrom}
+use Rattle.mesh_slices.specs.Agreement.{SameOutline, SamePart, Agree, HasZonesOf, IsMadeFrom}
 use Rattle.mesh_slices.specs.Agreeing.{same_plans, same_least}
 use Rattle.mesh_slices.specs.Objects.{IsOutlineOf, HoldsBand, AreZonesOf, IsObjectOf, spots_in}
 
@@ -42,6 +43,10 @@ outline_of S C o = record {
   within_second = o.within;
   within_first = All-from_in (λ s. Within S (at_spot s)) C (λ s i. member_within s S (In-from_contains S s (All-in (Contains S) C s o.members i)));
 }
+
+pub parts_themselves : (ps : List Part) → AllZip SamePart ps ps
+parts_themselves [] = tt
+parts_themselves (p ∷ ps) = (record { lo = refl; hi = refl; outline = outline_itself p.corners }, parts_themselves ps)
 
 -- ---- the zones of an object
 pub zones_of : (name : List ℕ) (facets : List Facet) (printer : Printer) (o : Object) → IsObjectOf name facets printer o → HasZonesOf printer facets o
