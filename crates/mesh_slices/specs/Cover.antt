@@ -8,11 +8,14 @@
 --   in_grains g q                 the point of the plane below q, in grains of g µm
 --   Covers facets g step b S      each point of a facet that lies in band b is, in grains, within S
 --   LiesInZone zones b q          band b lies in one of the zones, and q within its corners
+--   ZonesCover printer facets o   each point of a facet in a band of o lies, in grains, within the zone that holds the band
 use Rattle.std.specs.Prelude.{ℕ, ◌<◌, ℤ, pos, ◌+ℤ◌, ◌*ℤ◌, ◌≤ℤ◌, ◌≡◌, List, [], ◌∷◌, Contains}
 use Rattle.integer_laws.specs.Weights.{AreWeights, weigh, total}
+use Rattle.seq_model.specs.declared.job.Object.{Object}
 use Rattle.seq_model.specs.declared.job.Zone.{Zone}
 use Rattle.seq_model.specs.declared.mesh.Facet.{Facet}
 use Rattle.seq_model.specs.declared.mesh.Point3.{Point3}
+use Rattle.seq_model.specs.declared.printer.Printer.{Printer}
 use Rattle.seq_model.specs.declared.printer.Spot.{Spot}
 use Rattle.seq_model.specs.Bands.{least_z, band_count}
 use Rattle.seq_model.specs.Outlines.{Within}
@@ -63,3 +66,7 @@ pub record LiesInZone (zones : List Zone) (b : ℕ) (q : Point) : Type 0 where
   pub member : Contains zones zone
   pub holds : HoldsBand b zone
   pub within : Within zone.corners q
+
+-- no point of the mesh in a band of the object lies outside the zone that holds the band
+pub record ZonesCover (printer : Printer) (facets : List Facet) (o : Object) : Type 0 where
+  pub each : (b : ℕ) → b < o.bands → (f : Facet) (q : SpacePoint) → Contains facets f → IsOn f q → LiesInBand facets printer.step b q → LiesInZone o.zones b (in_grains printer.grain q)

@@ -25,7 +25,7 @@ use Rattle.seq_model.specs.Outlines.{spots, Within}
 use Rattle.seq_model.specs.Points.{Point}
 use Rattle.convex_outline.specs.Corners.{at_spot}
 use Rattle.mesh_slices.specs.Agreement.{HasZonesOf}
-use Rattle.mesh_slices.specs.Cover.{SpacePoint, three, IsOn, LiesInBand, in_grains, Covers, LiesInZone}
+use Rattle.mesh_slices.specs.Cover.{SpacePoint, three, IsOn, LiesInBand, in_grains, Covers, LiesInZone, ZonesCover}
 use Rattle.mesh_slices.specs.Covering.{InCone, cone_part, cone_member, within_cone, within_within}
 use Rattle.mesh_slices.specs.CoveringSpots.{in_flat, in_spots}
 use Rattle.mesh_slices.specs.CoveringEdges.{Edge, edge, edge_back}
@@ -239,14 +239,16 @@ outline_covers facets grain step b S C covers within = record { each = λ f q c 
 none_within : (q : Point) → Within [] q → ⊥
 none_within q v = let some = v.some in omega (arith, ints)
 
-pub zones_cover : (printer : Printer) (facets : List Facet) (o : Object) → HasZonesOf printer facets o → (b : ℕ) → b < o.bands → (f : Facet) (q : SpacePoint) → Contains facets f → IsOn f q → LiesInBand facets printer.step b q
-    → LiesInZone o.zones b (in_grains printer.grain q)
-zones_cover printer facets o has b h f q c on band =
-    let ranged = printer.ranged in
-    let S = spots_in printer facets b in
-    let v = (spots_cover facets printer.grain printer.step printer.margin b (at_least_one ranged.grain_low) (at_least_one ranged.step_low) ranged.margin_low).each f q c on band in
-    let one = has.zones.with_spots b h (λ e. none_within (in_grains printer.grain q) (subst (λ T. Within T (in_grains printer.grain q)) e v)) in
-    record { zone = one.zone; member = one.member; holds = one.holds; within = within_within S one.zone.corners (in_grains printer.grain q) one.outline.within v }
+pub zones_cover : (printer : Printer) (facets : List Facet) (o : Object) → HasZonesOf printer facets o → ZonesCover printer facets o
+zones_cover printer facets o has = record { each = each }
   where
     at_least_one : {n : ℤ} → pos 10 ≤ℤ n → pos 1 ≤ℤ n
     at_least_one h = omega (arith, ints)
+
+    each : (b : ℕ) → b < o.bands → (f : Facet) (q : SpacePoint) → Contains facets f → IsOn f q → LiesInBand facets printer.step b q → LiesInZone o.zones b (in_grains printer.grain q)
+    each b h f q c on band =
+        let ranged = printer.ranged in
+        let S = spots_in printer facets b in
+        let v = (spots_cover facets printer.grain printer.step printer.margin b (at_least_one ranged.grain_low) (at_least_one ranged.step_low) ranged.margin_low).each f q c on band in
+        let one = has.zones.with_spots b h (λ e. none_within (in_grains printer.grain q) (subst (λ T. Within T (in_grains printer.grain q)) e v)) in
+        record { zone = one.zone; member = one.member; holds = one.holds; within = within_within S one.zone.corners (in_grains printer.grain q) one.outline.within v }

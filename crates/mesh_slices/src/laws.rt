@@ -1,6 +1,6 @@
 //! Laws over the definitions. Each is the contract of a call that does nothing.
 
-ghost use Rattle.std.specs.Prelude.{ℕ, ◌<◌, ℤ, pos, ◌≤ℤ◌, List, All, Contains, ◌↔◌};
+ghost use Rattle.std.specs.Prelude.{ℕ, ℤ, pos, ◌≤ℤ◌, List, All, Contains, ◌↔◌};
 ghost use Rattle.seq_model.specs.declared.job.Job.{Job};
 ghost use Rattle.seq_model.specs.declared.job.Object.{Object};
 ghost use Rattle.seq_model.specs.declared.mesh.Facet.{Facet};
@@ -14,7 +14,7 @@ ghost use Rattle.seq_model.specs.Outlines.{spots, Within};
 ghost use Rattle.seq_model.specs.Scenes.{Scene, Valid, Least, scene_of_files, description_of};
 ghost use Rattle.convex_outline.specs.Corners.{at_spot};
 ghost use Rattle.mesh_slices.specs.Agreement.{Agree, HasZonesOf, IsMadeFrom};
-ghost use Rattle.mesh_slices.specs.Cover.{SpacePoint, IsOn, LiesInBand, HasBand, in_grains, Covers, LiesInZone};
+ghost use Rattle.mesh_slices.specs.Cover.{SpacePoint, IsOn, HasBand, Covers, ZonesCover};
 
 /// Scenes that agree have the same valid plans.
 pub fn scenes_that_agree_have_the_same_valid_plans()
@@ -63,6 +63,5 @@ pub fn each_point_of_a_mesh_has_a_band()
 
 /// No point of a mesh in a band is lost: it lies, in grains, within the corners of the zone that holds the band.
 pub fn zones_cover_their_bands()
-    ensures { (printer : Printer) (facets : List Facet) (o : Object) → HasZonesOf printer facets o → (b : ℕ) → b < o.bands → (f : Facet) (q : SpacePoint) → Contains facets f → IsOn f q
-        → LiesInBand facets printer.step b q → LiesInZone o.zones b (in_grains printer.grain q) }
+    ensures { (printer : Printer) (facets : List Facet) (o : Object) → HasZonesOf printer facets o → ZonesCover printer facets o }
 {}
