@@ -13,6 +13,7 @@ mod corner;
 mod extremes;
 mod grains;
 mod measure;
+pub mod laws;
 mod objects;
 mod outline;
 mod points;
