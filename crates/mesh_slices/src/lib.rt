@@ -12,8 +12,8 @@
 mod corner;
 mod extremes;
 mod grains;
-mod measure;
 pub mod laws;
+mod measure;
 mod objects;
 mod outline;
 mod points;
