@@ -5,6 +5,7 @@ use Rattle.std.proofs.lemmas.Int.{ints}
 use Rattle.std.proofs.lemmas.List.Elements.{All-nil, All-cons, All-contains, All-head, All-tail}
 use Rattle.integer_laws.specs.Ring.{expand}
 use Rattle.integer_laws.specs.Order.{cancel_le, add_le, le_from}
+use Rattle.model_laws.specs.Nested.{LiesWithin, nested}
 use Rattle.seq_model.specs.declared.job.Job.{Job}
 use Rattle.seq_model.specs.declared.job.Object.{Object}
 use Rattle.seq_model.specs.declared.plan.Place.{Place}
@@ -12,7 +13,7 @@ use Rattle.seq_model.specs.declared.plan.Plan.{Plan}
 use Rattle.seq_model.specs.declared.plate.Region.{Region}
 use Rattle.seq_model.specs.declared.printer.Spot.{Spot}
 use Rattle.seq_model.specs.Plates.{region_of}
-use Rattle.seq_model.specs.Scenes.{Scene, SomeSpot, Spans, LiesIn, LiesWithin, Valid}
+use Rattle.seq_model.specs.Scenes.{Scene, SomeSpot, Spans, LiesIn, Valid}
 use Rattle.seq_model.specs.Systems.{Row, bounds_of, system, row_at, IsTaken, Contradiction, sum_coefficients}
 use Rattle.seq_model.specs.Trees.{Refutes}
 use Rattle.lone_object.specs.Lone.{Overhangs, IsFirstNegative, span_tree}
@@ -63,16 +64,13 @@ span_fits scene region scale place low high p inside is spans =
     let y = narrow scale region.low.y region.h place.y spans.south.spot.y spans.north.spot.y p south.south north.north in
     record { x = omega (arith, ints, x, spans.west.so, spans.east.so); y = omega (arith, ints, y, spans.south.so, spans.north.so) }
 
-abbrev pub NestedLaw : Type 0
-NestedLaw = (width depth : ℤ) (grid e f : ℕ) → pos 1 ≤ℤ width → pos 1 ≤ℤ depth → 1 ≤ grid → e ≤ f → f ≤ grid → LiesWithin (region_of width depth grid e) (region_of width depth grid f)
-
 too_wide : (width depth : ℤ) (low high : Spot) (row : ℕ) (region : Region) → Overhangs width depth low high row → LiesWithin region (whole_plate width depth) → SpanFits region low high → ⊥
 too_wide width depth low high zero region over within fits = absurd (omega (arith, ints, over, within.west, within.east, fits.x))
 too_wide width depth low high (suc zero) region over within fits = absurd (omega (arith, ints, over.1, within.south, within.north, fits.y))
 too_wide width depth low high (suc (suc row)) region over within fits = over
 
-pub no_plan : NestedLaw → (scene : Scene) (low high : Spot) (row : ℕ) → scene.objects ≡ 1 → 1 ≤ scene.grid → pos 1 ≤ℤ scene.width → pos 1 ≤ℤ scene.depth → Spans scene 0 low high → Overhangs scene.width scene.depth low high row → (e : ℕ) (plan : Plan) → Valid scene e plan → ⊥
-no_plan nested scene low high row one grid width depth spans over e plan valid =
+pub no_plan : (scene : Scene) (low high : Spot) (row : ℕ) → scene.objects ≡ 1 → 1 ≤ scene.grid → pos 1 ≤ℤ scene.width → pos 1 ≤ℤ scene.depth → Spans scene 0 low high → Overhangs scene.width scene.depth low high row → (e : ℕ) (plan : Plan) → Valid scene e plan → ⊥
+no_plan scene low high row one grid width depth spans over e plan valid =
     let region = region_of scene.width scene.depth scene.grid e in
     let p = placed (IsInside scene region plan.scale) plan.places 0 valid.inside (valid.once 0 (omega (arith, one))) in
     let fits = span_fits scene region plan.scale p.place low high valid.scale p.holds p.is spans in

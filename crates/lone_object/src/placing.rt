@@ -1,7 +1,7 @@
 ghost use Rattle.std.specs.Prelude.{◌≡◌, ◌<◌, ◌≤◌, ℕ, ℤ, pos, ◌-ℤ◌, neg_ℤ, ◌≤ℤ◌, List, ◌∷◌, [], length, All, IfSome, IfNone, IfOk, IfErr, unsigned_abs, max};
 ghost use Rattle.integer_laws.specs.Quotients.{floor, ceil};
 ghost use Rattle.seq_model.specs.Bands.{band_count};
-ghost use Rattle.seq_model.specs.Bounds.{IsNear, IsNearFacet};
+ghost use Rattle.seq_model.specs.Bounds.{IsNear, IsNearFacet, IsNearSpot};
 ghost use Rattle.seq_model.specs.Outlines.{below, above};
 ghost use Rattle.seq_model.specs.Scenes.{Scene, Spans, Valid, scene_of_files, description_of};
 ghost use Rattle.seq_model.specs.declared.printer.Part.{Part};
@@ -11,10 +11,9 @@ ghost use Rattle.seq_model.specs.Trees.{Refutes};
 ghost use Rattle.seq_model.specs.declared.job.Job.{Job};
 ghost use Rattle.seq_model.specs.declared.job.Object.{Object};
 ghost use Rattle.seq_model.specs.declared.plan.Plan.{Plan};
-ghost use Rattle.lone_object.specs.Lone.{IsNearSpot, FitsPlate, Overhangs, IsFirstNegative, span_tree, zero_place, lone_plan};
+ghost use Rattle.lone_object.specs.Lone.{FitsPlate, Overhangs, IsFirstNegative, span_tree, zero_place, lone_plan};
 
 use crate::extremes::extremes_of;
-use seq_model::laws::smaller_region_lies_in_larger;
 use seq_model::{Facet, Place, Point3, Printer, Spot};
 
 /// The least and the greatest spot coordinates of an object over all its bands, in grains, and the number
@@ -128,7 +127,7 @@ pub fn measure_object(printer: &Printer, facets: &[Facet]) -> Measure
     requires some { 0 < length facets.now }
     ensures spans { (listed : List Part) → Spans (scene_of_files (description_of printer.now listed) (facets.now ∷ [])) 0 result.low result.high }
     ensures bands { result.bands ≡ band_count facets.now printer.now.step }
-    ensures near { IsNearSpot result.low × IsNearSpot result.high }
+    ensures near { IsNearSpot 20_001_000 result.low × IsNearSpot 20_001_000 result.high }
 {
     let found = extremes_of(facets);
     let low = low_spot(&found.low, printer);
@@ -139,7 +138,7 @@ pub fn measure_object(printer: &Printer, facets: &[Facet]) -> Measure
 
 // The row of the system that the span from low to high breaks, if it isn't at most the plate's size.
 fn overhang(low: &Spot, high: &Spot, printer: &Printer) -> Option<u32>
-    requires near { IsNearSpot low.now × IsNearSpot high.now }
+    requires near { IsNearSpot 20_001_000 low.now × IsNearSpot 20_001_000 high.now }
     ensures over { IfSome result (Overhangs printer.now.width printer.now.depth low.now high.now) }
     ensures fits { IfNone result (FitsPlate printer.now.width printer.now.depth low.now high.now) }
 {
@@ -155,7 +154,7 @@ fn overhang(low: &Spot, high: &Spot, printer: &Printer) -> Option<u32>
 /// The place that moves the least spot of the only object to the plate's low corner. Where the object's span is more
 /// than the plate's size, the first row of the system of the whole plate whose constant is negative.
 pub fn place_alone(printer: &Printer, measure: &Measure) -> Result<Place, u32>
-    requires { IsNearSpot measure.now.low × IsNearSpot measure.now.high }
+    requires { IsNearSpot 20_001_000 measure.now.low × IsNearSpot 20_001_000 measure.now.high }
     ensures place { IfOk result (λ place. place ≡ zero_place measure.now.low) }
     ensures fits { IfOk result (λ _. FitsPlate printer.now.width printer.now.depth measure.now.low measure.now.high) }
     ensures over { IfErr result (Overhangs printer.now.width printer.now.depth measure.now.low measure.now.high) }
@@ -183,6 +182,4 @@ pub fn overhang_is_refuted()
         → IsFirstNegative (system job job.printer.grid []) row }
     ensures tree { (job : Job) (object : Object) (row : ℕ) → job.objects ≡ object ∷ [] → Overhangs job.printer.width job.printer.depth object.low object.high row
         → Refutes job job.printer.grid [] (span_tree row) }
-{
-    smaller_region_lies_in_larger();
-}
+{}

@@ -3,8 +3,9 @@ use Rattle.std.proofs.Common.{◌≡◌, ℕ, zero, suc, ◌≤◌, pos, ◌-ℤ
 use Rattle.std.proofs.lemmas.Int.{ints}
 use Rattle.std.proofs.lemmas.List.Elements.{All-nil, All-cons, All-contains}
 use Rattle.std.proofs.Math.Nat.{eq-one_of_dvd-one}
-use Rattle.lone_object.specs.Lone.{IsNearSpot, FitsPlate, Overhangs, IsFirstNegative, span_tree, zero_place, lone_plan}
+use Rattle.lone_object.specs.Lone.{FitsPlate, Overhangs, IsFirstNegative, span_tree, zero_place, lone_plan}
 use Rattle.plan_text.specs.PlanText.{plan_text, IsPlace, IsPlanFile}
+use Rattle.seq_model.specs.Bounds.{IsNearSpot}
 use Rattle.seq_model.specs.Scenes.{Description, Scene, Between, SomeSpot, Spans, Valid, scene_of_files, description_of}
 use Rattle.seq_model.specs.Systems.{system}
 use Rattle.seq_model.specs.Trees.{Refutes}
@@ -37,7 +38,7 @@ is_file grid place plan same low high is = subst (λ p. IsPlanFile (found grid p
   bare = λ none. absurd (cc none);
 })
 
-pub near_place : (low : Spot) (place : Place) → place ≡ zero_place low → IsNearSpot low → IsPlace place
+pub near_place : (low : Spot) (place : Place) → place ≡ zero_place low → IsNearSpot 20_001_000 low → IsPlace place
 near_place low place is near = subst IsPlace (sym is) (record { object = omega arith; x = omega (arith, ints, neg_is, near.x); y = omega (arith, ints, neg_is, near.y) })
 
 -- the description that a printer's numbers state

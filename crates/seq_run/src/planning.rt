@@ -1,5 +1,5 @@
 ghost use Rattle.std.specs.Prelude.{◌≡◌, ◌≤◌, ◌∷◌, [], IfOk, IfErr};
-ghost use Rattle.lone_object.specs.Lone.{IsNearSpot};
+ghost use Rattle.seq_model.specs.Bounds.{IsNearSpot};
 ghost use Rattle.seq_model.specs.Scenes.{Spans, description_of, scene_of_files};
 ghost use Rattle.seq_run.specs.Answers.{Prints, PrintsFor};
 ghost use Rattle.seq_run.specs.Causes.{IsUnsliced};
@@ -25,7 +25,7 @@ pub struct Answer {
 pub fn measured(printer: &Printer, mesh: &Mesh) -> Result<Measure, Cause>
     ensures slices { IfOk result (λ measure. CanBeSliced mesh.now.facets printer.now.step) }
     ensures spans { IfOk result (λ measure. Spans (scene_of_files (description_of printer.now printer.now.parts) (mesh.now.facets ∷ [])) 0 measure.low measure.high) }
-    ensures near { IfOk result (λ measure. IsNearSpot measure.low × IsNearSpot measure.high) }
+    ensures near { IfOk result (λ measure. IsNearSpot 20_001_000 measure.low × IsNearSpot 20_001_000 measure.high) }
     ensures why { IfErr result (IsUnsliced mesh.now.facets printer.now.step) }
 {
     if mesh.facets.is_empty() {
@@ -40,7 +40,7 @@ pub fn measured(printer: &Printer, mesh: &Mesh) -> Result<Measure, Cause>
 
 /// The plan of one object, at the plate's low corner, or the certificate that there is none.
 pub fn arrange(alloc: Global, printer: &Printer, measure: &Measure) -> Result<Answer, NoMemory>
-    requires { IsNearSpot measure.now.low × IsNearSpot measure.now.high }
+    requires { IsNearSpot 20_001_000 measure.now.low × IsNearSpot 20_001_000 measure.now.high }
     ensures prints { IfOk result (λ answer. PrintsFor (description_of printer.now printer.now.parts) measure.now.low measure.now.high answer.status answer.text) }
     ensures status { IfOk result (λ answer. answer.status ≤ 1) }
     ensures quiet { IfOk result (λ answer. answer.notes ≡ []) }
