@@ -8,6 +8,8 @@
 --   Answers files a s n text the files can be used, the text is one of status s for them, and n are the notes
 use Rattle.std.specs.Prelude.{◌≡◌, ℕ, zero, suc, List, [], ◌∷◌, Option}
 use Rattle.lone_object.specs.Lone.{zero_place, lone_plan, span_tree, IsFirstNegative}
+use Rattle.mesh_checks.specs.Edges.{open_edges}
+use Rattle.mesh_checks.specs.Volumes.{six_volume}
 use Rattle.plan_text.specs.PlanText.{plan_text, IsPlanFile}
 use Rattle.seq_io.specs.declared.mem_file.MemFile.{MemFile}
 use Rattle.seq_model.specs.Bands.{band_count}
@@ -20,6 +22,7 @@ use Rattle.seq_model.specs.declared.mesh.Facet.{Facet}
 use Rattle.seq_model.specs.declared.plan.Plan.{Plan}
 use Rattle.seq_model.specs.declared.printer.Spot.{Spot}
 use Rattle.seq_run.specs.Files.{AreUsable}
+use Rattle.seq_run.specs.Messages.{IsNoteOf}
 use Rattle.seq_run.specs.Texts.{found, none_text}
 use Rattle.seq_run.specs.declared.words.Asked.{Asked}
 
@@ -68,4 +71,4 @@ pub record Answers (files : Option (List MemFile)) (a : Asked) (status : ℕ) (n
   pub dropped : ℕ
   pub usable : AreUsable files a description facets dropped
   pub prints : Prints description facets status text
-  pub quiet : notes ≡ []
+  pub note : IsNoteOf a.mesh (open_edges facets) (six_volume facets) dropped notes

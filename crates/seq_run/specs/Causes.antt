@@ -3,12 +3,16 @@
 --   IsSomePrinter files name          the file of that name states some description
 --   IsRefusedPrinter files name c     it is refused for this cause
 --   IsUnsliced facets step c          the mesh can't be sliced for this cause
---   IsRefusedMesh files name d c      the mesh of that name is refused for this cause, by a printer of this description
+--   IsNotClosed strict facets e v     a strict run, and the mesh has e open edges and v for six times its volume
+--   IsRefusedMesh files a d c         the mesh is refused for this cause, by a printer of this description
 --   Refuses files a file c            the first file in word order that can't be used is this one, for this cause
 --   Reaches files a file              those before this one can be used
 --   Explains files a stop             what a stop says of the files
-use Rattle.std.specs.Prelude.{◌≡◌, ◌≢◌, ℕ, ℤ, ◌<◌, ◌≤◌, List, [], length, Option}
+use Rattle.std.specs.Prelude.{◌≡◌, ◌≢◌, ℕ, ℤ, Bool, true, ◌<◌, ◌≤◌, List, [], length, Option}
 use Rattle.first_forms.specs.Descriptions.{IsNoPrinter}
+use Rattle.mesh_checks.specs.Edges.{open_edges}
+use Rattle.mesh_checks.specs.Verdicts.{IsClosedOutward}
+use Rattle.mesh_checks.specs.Volumes.{six_volume}
 use Rattle.seq_io.specs.Files.{GivesFile, LongerThan}
 use Rattle.seq_io.specs.declared.mem_file.MemFile.{MemFile}
 use Rattle.seq_model.specs.Bands.{band_count}
@@ -16,7 +20,7 @@ use Rattle.seq_model.specs.Scenes.{Description}
 use Rattle.seq_model.specs.declared.mesh.Facet.{Facet}
 use Rattle.stl_text.specs.Meshes.{IsRefused}
 use Rattle.stl_text.specs.declared.Stl.{Stl}
-use Rattle.seq_run.specs.Files.{limit_of, IsPrinterFile, IsMeshFile}
+use Rattle.seq_run.specs.Files.{limit_of, IsPrinterFile, IsMeshFile, PassesStrict}
 use Rattle.seq_run.specs.declared.stop.Cause.{Cause}
 use Rattle.seq_run.specs.declared.stop.Cause.TheVariants as Causes
 use Rattle.seq_run.specs.declared.stop.NamedFile.{NamedFile}
@@ -40,6 +44,7 @@ abbrev pub IsRefusedPrinter : Option (List MemFile) → List ℕ → Cause → T
 IsRefusedPrinter files name Causes.TooLong = LongerThan (limit_of Printer) files name
 IsRefusedPrinter files name Causes.NotYet = IsNoPrinterFile files name
 IsRefusedPrinter files name (Causes.Stl e) = ⊥
+IsRefusedPrinter files name (Causes.NotClosed edges volume) = ⊥
 IsRefusedPrinter files name Causes.Flat = ⊥
 IsRefusedPrinter files name (Causes.TooTall bands) = ⊥
 
@@ -61,28 +66,50 @@ abbrev pub IsUnsliced : List Facet → ℤ → Cause → Type 0
 IsUnsliced facets step Causes.TooLong = ⊥
 IsUnsliced facets step Causes.NotYet = ⊥
 IsUnsliced facets step (Causes.Stl e) = ⊥
+IsUnsliced facets step (Causes.NotClosed edges volume) = ⊥
 IsUnsliced facets step Causes.Flat = facets ≡ []
 IsUnsliced facets step (Causes.TooTall bands) = IsTooTall facets step bands
 
--- a mesh that can't be sliced
-pub record IsUnslicedFile (files : Option (List MemFile)) (name : List ℕ) (step : ℤ) (c : Cause) : Type 0 where
+-- a strict run refuses the mesh, with the two numbers that its line tells
+pub record IsNotClosed (strict : Bool) (facets : List Facet) (edges : ℕ) (volume : ℤ) : Type 0 where
+  pub asked : strict ≡ true
+  pub counted : edges ≡ open_edges facets
+  pub summed : volume ≡ six_volume facets
+  pub refused : IsClosedOutward edges volume → ⊥
+
+-- what a look at a mesh stops for: the cause above, or want of memory
+abbrev pub IsUnlooked : Bool → List Facet → Stop → Type 0
+IsUnlooked strict facets (Input Mesh (Causes.NotClosed edges volume)) = IsNotClosed strict facets edges volume
+IsUnlooked strict facets Memory = Unit {0}
+IsUnlooked strict facets stop = ⊥
+
+pub record IsNotClosedFile (files : Option (List MemFile)) (a : Asked) (edges : ℕ) (volume : ℤ) : Type 0 where
   pub facets : List Facet
   pub dropped : ℕ
-  pub is : IsMeshFile files name facets dropped
+  pub is : IsMeshFile files a.mesh facets dropped
+  pub not_closed : IsNotClosed a.strict facets edges volume
+
+-- a mesh that can't be sliced, though it isn't refused before
+pub record IsUnslicedFile (files : Option (List MemFile)) (a : Asked) (step : ℤ) (c : Cause) : Type 0 where
+  pub facets : List Facet
+  pub dropped : ℕ
+  pub is : IsMeshFile files a.mesh facets dropped
+  pub passes : PassesStrict a.strict facets
   pub unsliced : IsUnsliced facets step c
 
-abbrev pub IsRefusedMesh : Option (List MemFile) → List ℕ → Description → Cause → Type 0
-IsRefusedMesh files name d Causes.TooLong = LongerThan (limit_of Mesh) files name
-IsRefusedMesh files name d Causes.NotYet = ⊥
-IsRefusedMesh files name d (Causes.Stl e) = IsNoStl files name e
-IsRefusedMesh files name d Causes.Flat = IsUnslicedFile files name d.step Causes.Flat
-IsRefusedMesh files name d (Causes.TooTall bands) = IsUnslicedFile files name d.step (Causes.TooTall bands)
+abbrev pub IsRefusedMesh : Option (List MemFile) → Asked → Description → Cause → Type 0
+IsRefusedMesh files a d Causes.TooLong = LongerThan (limit_of Mesh) files a.mesh
+IsRefusedMesh files a d Causes.NotYet = ⊥
+IsRefusedMesh files a d (Causes.Stl e) = IsNoStl files a.mesh e
+IsRefusedMesh files a d (Causes.NotClosed edges volume) = IsNotClosedFile files a edges volume
+IsRefusedMesh files a d Causes.Flat = IsUnslicedFile files a d.step Causes.Flat
+IsRefusedMesh files a d (Causes.TooTall bands) = IsUnslicedFile files a d.step (Causes.TooTall bands)
 
 -- the mesh is refused by a printer that can be used
 pub record IsRefusedBy (files : Option (List MemFile)) (a : Asked) (c : Cause) : Type 0 where
   pub description : Description
   pub printer : IsPrinterFile files a.printer description
-  pub refused : IsRefusedMesh files a.mesh description c
+  pub refused : IsRefusedMesh files a description c
 
 abbrev pub Refuses : Option (List MemFile) → Asked → NamedFile → Cause → Type 0
 Refuses files a Printer c = IsRefusedPrinter files a.printer c

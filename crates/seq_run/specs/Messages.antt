@@ -1,12 +1,15 @@
 -- The line that goes to `err`, and the status, of refused words and of each stop.
 --
 --   words_line why       the line of refused words
+--   looks_text e v       open edges and six times the volume of a mesh
+--   IsNoteOf name e v d notes   the notes are the line of this mesh where one is due, and else nothing
 --   detail_of file c     the end of the line of a refused file
 --   status_of stop       3 for a failed read, 4 for a refused file, 9 for want of memory
 --   line_of a stop       the line
-use Rattle.std.specs.Prelude.{ℕ, pos, List, [], ◌++◌, codes}
+use Rattle.std.specs.Prelude.{◌≡◌, ℕ, ℤ, pos, List, [], ◌++◌, codes}
 use Rattle.decimal_lengths.specs.declared.Decimal.{Decimal}
 use Rattle.decimal_lengths.specs.declared.Decimal.TheVariants as Decimals
+use Rattle.mesh_checks.specs.Verdicts.{IsDue}
 use Rattle.seq_num.specs.Spelling.{spelling}
 use Rattle.seq_words.specs.declared.command.Opt.{Opt}
 use Rattle.seq_words.specs.declared.command.Words.{Words}
@@ -54,11 +57,28 @@ stl_text Stls.TooManyFacets = codes "more than 200000 facets"
 stl_text Stls.NoFacet = codes "no facet"
 stl_text Stls.NoMemory = []
 
+unfoldable pub volume_text : ℤ → List ℕ
+volume_text volume = codes ", six volume " ++ spelling volume
+
+unfoldable pub looks_text : ℕ → ℤ → List ℕ
+looks_text edges volume = codes "open edges " ++ (spelling (pos edges) ++ volume_text volume)
+
+unfoldable pub dropped_text : ℕ → List ℕ
+dropped_text dropped = codes ", dropped " ++ (spelling (pos dropped) ++ codes "\n")
+
+abbrev pub note_line : List ℕ → ℕ → ℤ → ℕ → List ℕ
+note_line name edges volume dropped = codes "note: " ++ (name ++ (codes ": " ++ (looks_text edges volume ++ dropped_text dropped)))
+
+pub record IsNoteOf (name : List ℕ) (edges : ℕ) (volume : ℤ) (dropped : ℕ) (notes : List ℕ) : Type 0 where
+  pub due : IsDue edges volume dropped → notes ≡ note_line name edges volume dropped
+  pub none : (IsDue edges volume dropped → ⊥) → notes ≡ []
+
 abbrev pub detail_of : NamedFile → Cause → List ℕ
 detail_of Printer Causes.TooLong = codes "longer than 1048576 bytes"
 detail_of Mesh Causes.TooLong = codes "longer than 67108864 bytes"
 detail_of file Causes.NotYet = codes "not yet"
 detail_of file (Causes.Stl e) = stl_text e
+detail_of file (Causes.NotClosed edges volume) = codes "not a closed outward mesh: " ++ looks_text edges volume
 detail_of file Causes.Flat = codes "no facet is left"
 detail_of file (Causes.TooTall bands) = codes "more than 200 bands: " ++ spelling (pos bands)
 

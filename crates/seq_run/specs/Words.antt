@@ -17,12 +17,12 @@ only [] = None
 only (x ∷ []) = Some x
 only (x ∷ y ∷ xs) = None
 
-abbrev pub request_by : List ℕ → Option (List ℕ) → Result Asked Misworded
-request_by printer (Some mesh) = Ok (record { printer = printer; mesh = mesh })
-request_by printer None = Err NotBuilt
+abbrev pub request_by : Bool → List ℕ → Option (List ℕ) → Result Asked Misworded
+request_by strict printer (Some mesh) = Ok (record { strict = strict; printer = printer; mesh = mesh })
+request_by strict printer None = Err NotBuilt
 
 abbrev pub request_of : Command → Result Asked Misworded
-request_of (Command.Arrange false false budget printer meshes) = request_by printer (only meshes)
+request_of (Command.Arrange false strict budget printer meshes) = request_by strict printer (only meshes)
 request_of command = Err NotBuilt
 
 abbrev pub is_built : Command → Bool

@@ -1,12 +1,13 @@
 ghost use Rattle.std.specs.Prelude.{◌≡◌, ◌++◌, pos, codes, IfOk, OnOk};
 ghost use Rattle.seq_num.specs.Spelling.{spelling};
-ghost use Rattle.seq_run.specs.Messages.{decimal_text, detail_of, input_line, line_of, read_line, status_of, stl_text, words_line};
+ghost use Rattle.seq_run.specs.Messages.{IsNoteOf, decimal_text, detail_of, dropped_text, input_line, line_of, looks_text, note_line, read_line, status_of, stl_text, volume_text, words_line};
 ghost use Rattle.seq_run.specs.Files.{name_in};
 
 use crate::texts::put_number;
 use crate::{Asked, Cause, Misworded, NamedFile, Stop};
 use decimal_lengths::Decimal;
-use owned_lists::Text;
+use mesh_checks::Notes;
+use owned_lists::{Items, Text};
 use seq_words::{Opt, Words};
 use std::alloc::{AllocError, Global};
 use stl_text::{Stl, text_of};
@@ -83,6 +84,61 @@ fn put_stl(to: &mut Vec<u8>, e: Stl) -> Result<(), AllocError>
     }
 }
 
+// Appends six times the volume.
+#[tactic(auto, unfolding(crate::specs::Messages::volume_text))]
+fn put_volume(to: &mut Vec<u8>, six_volume: i128) -> Result<(), AllocError>
+    ensures { OnOk result (to.new.items ≡ to.old.items ++ volume_text six_volume) }
+{
+    put_number(to, b", six volume ", six_volume)
+}
+
+// Appends open edges and six times the volume.
+#[tactic(auto, unfolding(crate::specs::Messages::looks_text))]
+fn put_looks(to: &mut Vec<u8>, open_edges: u64, six_volume: i128) -> Result<(), AllocError>
+    ensures { OnOk result (to.new.items ≡ to.old.items ++ looks_text open_edges six_volume) }
+{
+    put_number(to, b"open edges ", i128::from(open_edges))?;
+    put_volume(to, six_volume)
+}
+
+// Appends the number of dropped facets, and ends the line.
+#[tactic(auto, unfolding(crate::specs::Messages::dropped_text))]
+fn put_dropped(to: &mut Vec<u8>, dropped: u32) -> Result<(), AllocError>
+    ensures { OnOk result (to.new.items ≡ to.old.items ++ dropped_text dropped) }
+{
+    put_number(to, b", dropped ", i128::from(dropped))?;
+    to.extend_from_slice(b"\n")
+}
+
+// Appends why a strict run refuses a mesh.
+fn put_not_closed(to: &mut Vec<u8>, open_edges: u64, six_volume: i128) -> Result<(), AllocError>
+    ensures { OnOk result (to.new.items ≡ to.old.items ++ (codes "not a closed outward mesh: " ++ looks_text open_edges six_volume)) }
+{
+    to.extend_from_slice(b"not a closed outward mesh: ")?;
+    put_looks(to, open_edges, six_volume)
+}
+
+fn note_line(alloc: Global, name: &str, looks: &Notes) -> Result<Vec<u8>, AllocError>
+    ensures { IfOk result (λ line. line.items ≡ note_line name.now looks.now.open_edges looks.now.six_volume looks.now.dropped) }
+{
+    let mut line = Vec::from_slice(alloc, b"note: ")?;
+    line.extend_from_slice(name.as_bytes())?;
+    line.extend_from_slice(b": ")?;
+    put_looks(&mut line, looks.open_edges, looks.six_volume)?;
+    put_dropped(&mut line, looks.dropped)?;
+    Ok(line)
+}
+
+/// What is noted of a mesh; nothing where no note is due.
+pub fn note_of(alloc: Global, name: &Text, looks: &Notes) -> Result<Items<u8>, AllocError>
+    ensures { IfOk result (IsNoteOf name.now looks.now.open_edges looks.now.six_volume looks.now.dropped) }
+{
+    if !looks.is_due() {
+        return Ok(Items::new(alloc));
+    }
+    Ok(Items::from_vec(note_line(alloc, name.as_str(), looks)?))
+}
+
 // The most bytes that a file may have, as its line says it.
 fn too_long(file: NamedFile) -> &'static [u8]
     ensures { result.now ≡ detail_of file Cause.TooLong }
@@ -101,6 +157,10 @@ fn put_detail(to: &mut Vec<u8>, file: NamedFile, cause: Cause) -> Result<(), All
         Cause::TooLong => to.extend_from_slice(too_long(file)),
         Cause::NotYet => to.extend_from_slice(b"not yet"),
         Cause::Stl(e) => put_stl(to, e),
+        Cause::NotClosed {
+            open_edges,
+            six_volume,
+        } => put_not_closed(to, open_edges, six_volume),
         Cause::Flat => to.extend_from_slice(b"no facet is left"),
         Cause::TooTall(bands) => put_number(to, b"more than 200 bands: ", i128::from(bands)),
     }

@@ -1,13 +1,16 @@
 ghost use Rattle.std.specs.Prelude.{◌≡◌, ◌≤◌, ◌∷◌, [], IfOk, IfErr};
+ghost use Rattle.mesh_checks.specs.Edges.{open_edges};
+ghost use Rattle.mesh_checks.specs.Volumes.{six_volume};
 ghost use Rattle.seq_model.specs.Bounds.{IsNearSpot};
 ghost use Rattle.seq_model.specs.Scenes.{Spans, description_of, scene_of_files};
 ghost use Rattle.seq_run.specs.Answers.{Prints, PrintsFor};
-ghost use Rattle.seq_run.specs.Causes.{IsUnsliced};
-ghost use Rattle.seq_run.specs.Files.{CanBeSliced};
+ghost use Rattle.seq_run.specs.Causes.{IsUnlooked, IsUnsliced};
+ghost use Rattle.seq_run.specs.Files.{CanBeSliced, PassesStrict};
 
-use crate::Cause;
 use crate::texts::{found_text, none_text};
+use crate::{Cause, NamedFile, Stop};
 use lone_object::{Measure, lone_place_is_valid, measure_object, overhang_is_refuted, place_alone};
+use mesh_checks::{Notes, look};
 use owned_lists::Items;
 use seq_model::{Mesh, Printer};
 use seq_num::NoMemory;
@@ -19,6 +22,27 @@ pub struct Answer {
     pub status: u8,
     pub notes: Items<u8>,
     pub text: Items<u8>,
+}
+
+/// What there is to say of a mesh; a strict run refuses one that isn't closed or doesn't look outward.
+pub fn looked(alloc: Global, strict: bool, mesh: &Mesh) -> Result<Notes, Stop>
+    ensures open { IfOk result (λ looks. looks.open_edges ≡ open_edges mesh.now.facets) }
+    ensures volume { IfOk result (λ looks. looks.six_volume ≡ six_volume mesh.now.facets) }
+    ensures dropped { IfOk result (λ looks. looks.dropped ≡ mesh.now.dropped) }
+    ensures passes { IfOk result (λ looks. PassesStrict strict mesh.now.facets) }
+    ensures why { IfErr result (IsUnlooked strict mesh.now.facets) }
+{
+    let Ok(looks) = look(alloc, mesh) else {
+        return Err(Stop::Memory);
+    };
+    if strict && !looks.is_closed_outward() {
+        let cause = Cause::NotClosed {
+            open_edges: looks.open_edges,
+            six_volume: looks.six_volume,
+        };
+        return Err(Stop::Input(NamedFile::Mesh, cause));
+    }
+    Ok(looks)
 }
 
 /// The extremes and the bands of a mesh, or why it can't be sliced.
@@ -39,16 +63,20 @@ pub fn measured(printer: &Printer, mesh: &Mesh) -> Result<Measure, Cause>
 }
 
 /// The plan of one object, at the plate's low corner, or the certificate that there is none.
-pub fn arrange(alloc: Global, printer: &Printer, measure: &Measure) -> Result<Answer, NoMemory>
+pub fn arrange(
+    alloc: Global,
+    printer: &Printer,
+    measure: &Measure,
+    notes: Items<u8>,
+) -> Result<Answer, NoMemory>
     requires { IsNearSpot 20_001_000 measure.now.low × IsNearSpot 20_001_000 measure.now.high }
     ensures prints { IfOk result (λ answer. PrintsFor (description_of printer.now printer.now.parts) measure.now.low measure.now.high answer.status answer.text) }
     ensures status { IfOk result (λ answer. answer.status ≤ 1) }
-    ensures quiet { IfOk result (λ answer. answer.notes ≡ []) }
+    ensures notes { IfOk result (λ answer. answer.notes ≡ notes) }
 {
     // laws: this place is a valid plan, and where it is none there is no plan at all
     lone_place_is_valid();
     overhang_is_refuted();
-    let notes = Items::new(alloc);
     match place_alone(printer, measure) {
         Ok(place) => {
             let text = Items::from_vec(found_text(alloc, printer.grid, place)?);

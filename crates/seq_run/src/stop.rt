@@ -15,6 +15,8 @@ pub enum Cause {
     /// A description of a form that isn't read yet.
     NotYet,
     Stl(Stl),
+    /// A strict run, and edges are open or the volume isn't positive.
+    NotClosed { open_edges: u64, six_volume: i128 },
     /// No facet of the mesh is left.
     Flat,
     /// The mesh has so many bands, more than 200.

@@ -12,8 +12,8 @@ ghost use Rattle.seq_words.specs.Usages.{texts};
 ghost use Rattle.seq_words.specs.declared.command.Words.{Words};
 
 use crate::files::{read_printer, read_solid};
-use crate::messages::{status_of, words_line};
-use crate::planning::{Answer, arrange, measured};
+use crate::messages::{note_of, status_of, words_line};
+use crate::planning::{Answer, arrange, looked, measured};
 use crate::telling::{deliver, tell};
 use crate::words::request;
 use crate::{Asked, Misworded, NamedFile, Stop};
@@ -32,11 +32,15 @@ fn work<S: Shelf>(alloc: Global, asked: &Asked, shelf: &mut S) -> Result<Answer,
 {
     let printer = read_printer(alloc, asked, shelf)?;
     let mesh = read_solid(alloc, asked, &printer, shelf)?;
+    let looks = looked(alloc, asked.strict, &mesh)?;
     let measure = match measured(&printer, &mesh) {
         Ok(measure) => measure,
         Err(cause) => return Err(Stop::Input(NamedFile::Mesh, cause)),
     };
-    match arrange(alloc, &printer, &measure) {
+    let Ok(notes) = note_of(alloc, &asked.mesh, &looks) else {
+        return Err(Stop::Memory);
+    };
+    match arrange(alloc, &printer, &measure, notes) {
         Ok(answer) => Ok(answer),
         Err(_) => Err(Stop::Memory),
     }

@@ -15,9 +15,10 @@ pub enum Misworded {
     NotBuilt,
 }
 
-/// The files that `arrange` names.
+/// The files that `arrange` names, and whether it is strict.
 #[derive(Debug, Drop)]
 pub struct Asked {
+    pub strict: bool,
     pub printer: Text,
     pub mesh: Text,
 }
@@ -47,11 +48,12 @@ fn request_of(command: Command) -> Result<Asked, Misworded>
     if least {
         return Err(Misworded::NotBuilt);
     }
-    if strict {
-        return Err(Misworded::NotBuilt);
-    }
     match only(meshes) {
-        Some(mesh) => Ok(Asked { printer, mesh }),
+        Some(mesh) => Ok(Asked {
+            strict,
+            printer,
+            mesh,
+        }),
         None => Err(Misworded::NotBuilt),
     }
 }
