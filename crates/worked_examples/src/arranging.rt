@@ -1,4 +1,4 @@
-use crate::meshes::{block, blocks, exported_cube};
+use crate::meshes::{block, blocks, cube_with_a_dropped_facet, exported_cube, open_cube};
 use seq_io::{MemFile, MemShelf, MemSink, ReadAll, Shelf, read_all};
 use seq_run::run;
 use std::alloc::Global;
@@ -84,6 +84,78 @@ fn one_mesh_has_a_plan_or_a_certificate(rt: HostRuntime) -> Result<(), Fail> {
     Ok(())
 }
 
+const NONE: &[u8] = b"seqplan 1\nstate none\ngrid 100\ncertificate 1\nexcludes 100\nbound 0:1\n";
+
+// A facet of 1.5 mm, 20 mm and 20 mm, that is seen from outside and from inside.
+const OUTWARD: &[u8] =
+    b"solid\nfacet normal 0 0 0 outer loop vertex 0 0 1.5 vertex 20 0 0 vertex 0 20 20 endloop endfacet endsolid";
+
+const INWARD: &[u8] =
+    b"solid\nfacet normal 0 0 0 outer loop vertex 0 0 1.5 vertex 0 20 20 vertex 20 0 0 endloop endfacet endsolid";
+
+#[test]
+fn open_and_inverted_meshes_are_noted_and_a_strict_run_refuses_them(
+    rt: HostRuntime,
+) -> Result<(), Fail> {
+    let alloc = rt.alloc();
+    let loose = ["arrange", "p0.toml", "a.stl"].as_slice();
+    let strict = ["arrange", "p0.toml", "--strict", "a.stl"].as_slice();
+    let open = b"note: a.stl: open edges 3, six volume 48000000000000, dropped 0\n".as_slice();
+    let dropped = b"note: a.stl: open edges 0, six volume 48000000000000, dropped 1\n".as_slice();
+    let cases = [
+        (loose, PLATE, open_cube(alloc)?, 0, PLAN, open),
+        (loose, SMALL_PLATE, open_cube(alloc)?, 1, NONE, open),
+        (
+            strict,
+            PLATE,
+            open_cube(alloc)?,
+            4,
+            b"",
+            b"input: a.stl: not a closed outward mesh: open edges 3, six volume 48000000000000\n",
+        ),
+        (strict, PLATE, block(alloc, 20, 20, 20)?, 0, PLAN, b""),
+        (
+            loose,
+            PLATE,
+            cube_with_a_dropped_facet(alloc)?,
+            0,
+            PLAN,
+            dropped,
+        ),
+        (
+            strict,
+            PLATE,
+            cube_with_a_dropped_facet(alloc)?,
+            0,
+            PLAN,
+            dropped,
+        ),
+        (
+            loose,
+            PLATE,
+            Vec::from_slice(alloc, OUTWARD)?,
+            0,
+            PLAN,
+            b"note: a.stl: open edges 3, six volume 600000000000, dropped 0\n",
+        ),
+        (
+            strict,
+            PLATE,
+            Vec::from_slice(alloc, INWARD)?,
+            4,
+            b"",
+            b"input: a.stl: not a closed outward mesh: open edges 3, six volume -600000000000\n",
+        ),
+    ];
+    for (words, printer, mesh, status, text, line) in cases {
+        let done = run_in_memory(alloc, printer, "a.stl", mesh, words, &[], &[])?;
+        assert_eq!(rt; done.status, status);
+        assert_eq!(rt; done.out.taken(), text);
+        assert_eq!(rt; done.err.taken(), line);
+    }
+    Ok(())
+}
+
 // Meshes as text, and what the line on `err` says of them.
 static MESHES: [(&[u8], &[u8]); 6] = [
     (b"solid\nendsolid\n", b"input: a.stl: no facet\n"),
@@ -160,7 +232,7 @@ fn large_files_are_read_or_too_long(rt: HostRuntime) -> Result<(), Fail> {
 }
 
 // Words, calls of the shelf that fail, the status and the line on `err`.
-static RUNS: [(&[&str], &[u64], u8, &[u8]); 21] = [
+static RUNS: [(&[&str], &[u64], u8, &[u8]); 20] = [
     (&[], &[], 2, b"words: unknown command\n"),
     (
         &["arange", "p0.toml", "a.stl"],
@@ -209,12 +281,6 @@ static RUNS: [(&[&str], &[u64], u8, &[u8]); 21] = [
     (&["trial", "1", "0"], &[], 2, b"words: not yet\n"),
     (
         &["arrange", "--least", "p", "q"],
-        &[],
-        2,
-        b"words: not yet\n",
-    ),
-    (
-        &["arrange", "--strict", "p", "q"],
         &[],
         2,
         b"words: not yet\n",

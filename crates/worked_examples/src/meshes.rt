@@ -49,11 +49,13 @@ fn facet(alloc: Global, text: &mut Vec<u8>, style: Style, corners: [Point; 3]) -
     Ok(())
 }
 
-// Two facets for each of the six sides of a block from the origin to (x, y, z).
+// Two facets for each of the six sides of a block from the origin to (x, y, z); of the last side the second one only
+// where the block is closed.
 fn sides(
     alloc: Global,
     text: &mut Vec<u8>,
     style: Style,
+    closed: bool,
     x: i64,
     y: i64,
     z: i64,
@@ -64,11 +66,14 @@ fn sides(
         [(0, 0, 0), (x, 0, 0), (x, 0, z), (0, 0, z)],
         [(x, 0, 0), (x, y, 0), (x, y, z), (x, 0, z)],
         [(x, y, 0), (0, y, 0), (0, y, z), (x, y, z)],
-        [(0, y, 0), (0, 0, 0), (0, 0, z), (0, y, z)],
     ];
     for [a, b, c, d] in sides {
         facet(alloc, text, style, [a, b, c])?;
         facet(alloc, text, style, [a, c, d])?;
+    }
+    facet(alloc, text, style, [(0, y, 0), (0, 0, 0), (0, 0, z)])?;
+    if closed {
+        facet(alloc, text, style, [(0, y, 0), (0, 0, z), (0, y, z)])?;
     }
     Ok(())
 }
@@ -77,7 +82,7 @@ fn sides(
 pub(crate) fn blocks(alloc: Global, count: u32, x: i64, y: i64, z: i64) -> Result<Vec<u8>, Fail> {
     let mut text = Vec::from_slice(alloc, b"solid block\n")?;
     for _ in 0..count {
-        sides(alloc, &mut text, Style::Plain, x, y, z)?;
+        sides(alloc, &mut text, Style::Plain, true, x, y, z)?;
     }
     text.extend_from_slice(b"endsolid block\n")?;
     Ok(text)
@@ -91,7 +96,29 @@ pub(crate) fn block(alloc: Global, x: i64, y: i64, z: i64) -> Result<Vec<u8>, Fa
 /// A cube of 20 mm, as an exporter writes it.
 pub(crate) fn exported_cube(alloc: Global) -> Result<Vec<u8>, Fail> {
     let mut text = Vec::from_slice(alloc, b"SOLID\r\n")?;
-    sides(alloc, &mut text, Style::Exported, 20, 20, 20)?;
+    sides(alloc, &mut text, Style::Exported, true, 20, 20, 20)?;
     text.extend_from_slice(b"ENDSOLID\r\n")?;
+    Ok(text)
+}
+
+/// A cube of 20 mm without its last facet.
+pub(crate) fn open_cube(alloc: Global) -> Result<Vec<u8>, Fail> {
+    let mut text = Vec::from_slice(alloc, b"solid open\n")?;
+    sides(alloc, &mut text, Style::Plain, false, 20, 20, 20)?;
+    text.extend_from_slice(b"endsolid open\n")?;
+    Ok(text)
+}
+
+/// A cube of 20 mm with one facet more, of which two corners are equal.
+pub(crate) fn cube_with_a_dropped_facet(alloc: Global) -> Result<Vec<u8>, Fail> {
+    let mut text = block(alloc, 20, 20, 20)?;
+    text.extend_from_slice(b"solid more\n")?;
+    facet(
+        alloc,
+        &mut text,
+        Style::Plain,
+        [(0, 0, 0), (0, 0, 0), (1, 1, 1)],
+    )?;
+    text.extend_from_slice(b"endsolid more\n")?;
     Ok(text)
 }
