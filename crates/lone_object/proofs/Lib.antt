@@ -4,3 +4,4 @@ pub mod InBand
 pub mod Holding
 pub mod Reached
 pub mod Alone
+pub mod Overhanging

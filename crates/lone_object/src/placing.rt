@@ -1,12 +1,17 @@
-ghost use Rattle.std.specs.Prelude.{◌≡◌, ◌<◌, ◌≤◌, ◌↔◌, ℤ, pos, ◌-ℤ◌, neg_ℤ, ◌≤ℤ◌, List, ◌∷◌, [], length, All, IfSome, IsSome, IsTrue, unsigned_abs, max};
+ghost use Rattle.std.specs.Prelude.{◌≡◌, ◌<◌, ◌≤◌, ℕ, ℤ, pos, ◌-ℤ◌, neg_ℤ, ◌≤ℤ◌, List, ◌∷◌, [], length, All, IfSome, IfNone, IfOk, IfErr, unsigned_abs, max};
 ghost use Rattle.integer_laws.specs.Quotients.{floor, ceil};
 ghost use Rattle.seq_model.specs.Bands.{band_count};
-ghost use Rattle.seq_model.specs.Bounds.{IsNear, IsNearFacet};
+ghost use Rattle.seq_model.specs.Bounds.{IsNear, IsNearFacet, IsNearSpot};
 ghost use Rattle.seq_model.specs.Outlines.{below, above};
 ghost use Rattle.seq_model.specs.Scenes.{Scene, Spans, Valid, scene_of_files, description_of};
 ghost use Rattle.seq_model.specs.declared.printer.Part.{Part};
 ghost use Rattle.seq_model.specs.declared.printer.Spot.{Spot};
-ghost use Rattle.lone_object.specs.Lone.{IsNearSpot, FitsPlate, zero_place, lone_plan};
+ghost use Rattle.seq_model.specs.Systems.{system};
+ghost use Rattle.seq_model.specs.Trees.{Refutes};
+ghost use Rattle.seq_model.specs.declared.job.Job.{Job};
+ghost use Rattle.seq_model.specs.declared.job.Object.{Object};
+ghost use Rattle.seq_model.specs.declared.plan.Plan.{Plan};
+ghost use Rattle.lone_object.specs.Lone.{FitsPlate, Overhangs, IsFirstNegative, span_tree, zero_place, lone_plan};
 
 use crate::extremes::extremes_of;
 use seq_model::{Facet, Place, Point3, Printer, Spot};
@@ -122,7 +127,7 @@ pub fn measure_object(printer: &Printer, facets: &[Facet]) -> Measure
     requires some { 0 < length facets.now }
     ensures spans { (listed : List Part) → Spans (scene_of_files (description_of printer.now listed) (facets.now ∷ [])) 0 result.low result.high }
     ensures bands { result.bands ≡ band_count facets.now printer.now.step }
-    ensures near { IsNearSpot result.low × IsNearSpot result.high }
+    ensures near { IsNearSpot 20_001_000 result.low × IsNearSpot 20_001_000 result.high }
 {
     let found = extremes_of(facets);
     let low = low_spot(&found.low, printer);
@@ -131,37 +136,50 @@ pub fn measure_object(printer: &Printer, facets: &[Facet]) -> Measure
     Measure { low, high, bands }
 }
 
-// Whether the rectangle from low to high is at most as large as the plate.
-fn fits(low: &Spot, high: &Spot, printer: &Printer) -> bool
-    requires near { IsNearSpot low.now × IsNearSpot high.now }
-    ensures { IsTrue result ↔ FitsPlate printer.now.width printer.now.depth low.now high.now }
+// The row of the system that the span from low to high breaks, if it isn't at most the plate's size.
+fn overhang(low: &Spot, high: &Spot, printer: &Printer) -> Option<u32>
+    requires near { IsNearSpot 20_001_000 low.now × IsNearSpot 20_001_000 high.now }
+    ensures over { IfSome result (Overhangs printer.now.width printer.now.depth low.now high.now) }
+    ensures fits { IfNone result (FitsPlate printer.now.width printer.now.depth low.now high.now) }
 {
     if difference(high.x, low.x) > printer.width {
-        return false;
+        return Some(0);
     }
     if difference(high.y, low.y) > printer.depth {
-        return false;
+        return Some(1);
     }
-    true
+    None
 }
 
-/// The place that moves the least spot of the only object to the plate's low corner; None exactly where
-/// the object's span is more than the plate's size.
-pub fn place_alone(printer: &Printer, measure: &Measure) -> Option<Place>
-    requires { IsNearSpot measure.now.low × IsNearSpot measure.now.high }
-    ensures fits { IsSome result ↔ FitsPlate printer.now.width printer.now.depth measure.now.low measure.now.high }
-    ensures place { IfSome result (λ place. place ≡ zero_place measure.now.low) }
+/// The place that moves the least spot of the only object to the plate's low corner. Where the object's span is more
+/// than the plate's size, the first row of the system of the whole plate whose constant is negative.
+pub fn place_alone(printer: &Printer, measure: &Measure) -> Result<Place, u32>
+    requires { IsNearSpot 20_001_000 measure.now.low × IsNearSpot 20_001_000 measure.now.high }
+    ensures place { IfOk result (λ place. place ≡ zero_place measure.now.low) }
+    ensures fits { IfOk result (λ _. FitsPlate printer.now.width printer.now.depth measure.now.low measure.now.high) }
+    ensures over { IfErr result (Overhangs printer.now.width printer.now.depth measure.now.low measure.now.high) }
 {
-    if !fits(&measure.low, &measure.high, printer) {
-        return None;
+    if let Some(row) = overhang(&measure.low, &measure.high, printer) {
+        return Err(row);
     }
     let x = i128::from(negated(measure.low.x));
     let y = i128::from(negated(measure.low.y));
-    Some(Place { object: 0, x, y })
+    Ok(Place { object: 0, x, y })
 }
 
 /// The plan of that one place is valid on the whole plate, for whatever scene has this one object.
 pub fn lone_place_is_valid()
     ensures { (scene : Scene) (low high : Spot) → scene.objects ≡ 1 → 1 ≤ scene.grid → pos 1 ≤ℤ scene.width → pos 1 ≤ℤ scene.depth
         → Spans scene 0 low high → FitsPlate scene.width scene.depth low high → Valid scene scene.grid (lone_plan (zero_place low)) }
+{}
+
+/// An object that spans more than the plate has no valid plan at any extent; the row that its span breaks is the first
+/// of the system with a negative constant, and the tree of this row alone refutes the whole plate.
+pub fn overhang_is_refuted()
+    ensures none { (scene : Scene) (low high : Spot) (row : ℕ) → scene.objects ≡ 1 → 1 ≤ scene.grid → pos 1 ≤ℤ scene.width → pos 1 ≤ℤ scene.depth
+        → Spans scene 0 low high → Overhangs scene.width scene.depth low high row → (e : ℕ) (plan : Plan) → Valid scene e plan → ⊥ }
+    ensures first { (job : Job) (object : Object) (row : ℕ) → job.objects ≡ object ∷ [] → Overhangs job.printer.width job.printer.depth object.low object.high row
+        → IsFirstNegative (system job job.printer.grid []) row }
+    ensures tree { (job : Job) (object : Object) (row : ℕ) → job.objects ≡ object ∷ [] → Overhangs job.printer.width job.printer.depth object.low object.high row
+        → Refutes job job.printer.grid [] (span_tree row) }
 {}

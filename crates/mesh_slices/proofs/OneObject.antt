@@ -34,7 +34,7 @@ runs_of S n zones a s = record { rise = s.rise; each = All-from_in (IsRunOf S n)
     run : (z : Zone) → In z zones → IsRunOf S n z
     run z i =
         let sound = All-in IsSoundZone zones z s.each i in
-        record { rises = sound.rises; below_count = below; some = has_corners z.corners sound.polygon.some; outline = outline }
+        record { rises = sound.rises; below_count = below; some = has_corners z.corners sound.area; outline = outline }
       where
         below : z.last < n
         below = All-in (λ z. z.last < n) zones z s.end i
