@@ -1,15 +1,15 @@
 -- Spots round corner points have area, and so has their outline.
-use Rattle.std.proofs.Common.{◌≢◌, ◌≤◌, ℤ, pos, ◌-ℤ◌, ◌*ℤ◌, ◌≤ℤ◌, ◌<ℤ◌, List, [], ◌∷◌, length, All, Contains, refl, arith, inl}
+use Rattle.std.proofs.Common.{◌≢◌, ◌≤◌, ℤ, pos, ◌-ℤ◌, ◌*ℤ◌, ◌≤ℤ◌, ◌<ℤ◌, List, [], ◌∷◌, length, All, refl, arith, inl}
 use Rattle.std.proofs.lemmas.Int.{ints}
-use Rattle.integer_laws.specs.Members.{In-from_contains, All-in}
+use Rattle.integer_laws.specs.Members.{All-in}
 use Rattle.integer_laws.specs.Order.{lt_from, mul_positive}
 use Rattle.integer_laws.specs.Ring.{expand}
 use Rattle.integer_laws.specs.Quotients.{floor_le_ceil}
 use Rattle.seq_model.specs.declared.printer.Spot.{Spot}
-use Rattle.seq_model.specs.Outlines.{below, above, spots, Within}
+use Rattle.seq_model.specs.Outlines.{below, above, spots}
 use Rattle.seq_model.specs.Points.{Point}
 use Rattle.convex_outline.specs.Area.{three_of_area}
-use Rattle.convex_outline.specs.Corners.{at_spot, HasArea}
+use Rattle.convex_outline.specs.Corners.{HasArea}
 use Rattle.mesh_slices.specs.Objects.{IsOutlineOf}
 use Rattle.mesh_slices.specs.Unique.{hull_of_outline}
 
