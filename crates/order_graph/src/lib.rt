@@ -10,7 +10,7 @@
 //!
 //! What comes before an object is a set of 16 bits (`specs/Sets.antt`), so the cost doesn't grow with the orders held.
 //!
-//! The search for places stands on it: an order becomes the order of the plan, a cycle a leaf of the certificate.
+//! The search for places will stand on it: an order becomes the order of the plan, a cycle a leaf of the certificate.
 #![tactic(auto)]
 
 mod answers;

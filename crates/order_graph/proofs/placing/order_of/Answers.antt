@@ -1,7 +1,6 @@
 use Rattle.std.proofs.Common.{arith, sym, subst}
 use Rattle.order_graph.specs.Orders.{IsOrder}
-use Rattle.order_graph.specs.Walks.{IsPlacing}
-use Rattle.order_graph.proofs.PlacingLaws.{placed_more, order_from_placing, room_left}
+use Rattle.order_graph.proofs.PlacingLaws.{IsPlacing, placed_more, order_from_placing, room_left}
 use Rattle.order_graph.proofs.placing.order_of.Goals as goal
 
 pub push-requires : goal.push-requires

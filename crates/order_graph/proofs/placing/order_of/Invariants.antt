@@ -1,4 +1,4 @@
-use Rattle.order_graph.specs.Walks.{IsPlacing}
+use Rattle.order_graph.proofs.PlacingLaws.{IsPlacing}
 use Rattle.order_graph.proofs.placing.order_of.Given as goal
 
 abbrev pub invariant-loop-k : goal.invariant-loop-k

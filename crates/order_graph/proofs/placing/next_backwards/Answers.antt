@@ -1,5 +1,5 @@
 use Rattle.order_graph.proofs.PlacingLaws.{one_linked}
-use Rattle.order_graph.proofs.placing.earlier.Goals as goal
+use Rattle.order_graph.proofs.placing.next_backwards.Goals as goal
 
 pub loop-k-preserved : goal.loop-k-preserved
 loop-k-preserved c =
