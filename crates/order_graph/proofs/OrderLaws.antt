@@ -1,5 +1,5 @@
 -- An order that keeps all orders and a cycle of them exclude each other; and a cycle that an order closes shows what leads where.
-use Rattle.std.proofs.Common.{◌≡◌, ◌≢◌, ℕ, ◌+◌, ◌<◌, ◌≤◌, List, [], ◌∷◌, ◌++◌, length, get_or, take, drop, All, Contains, Result, Ok, Err, IsOk, IsErr, IfOk, IfErr, MatchResult, ◌↔◌, ◌⊎◌, inl, inr, ⊎_elim, refl, ap, sym, subst, ◌∙◌, arith}
+use Rattle.std.proofs.Common.{◌≡◌, ◌≢◌, ℕ, suc, ◌<◌, ◌≤◌, List, [], ◌∷◌, ◌++◌, length, get_or, take, drop, All, Contains, Result, Ok, Err, IsOk, IsErr, IfOk, IfErr, MatchResult, ◌↔◌, ◌⊎◌, inl, inr, ⊎_elim, refl, ap, sym, subst, ◌∙◌, arith}
 use Rattle.std.proofs.lemmas.Bool.{false≢true, cases_order}
 use Rattle.std.proofs.lemmas.List.{take-append-drop}
 use Rattle.std.proofs.lemmas.List.Elements.{All-nil, All-contains, All-contains_itself, All-weaker, All-push, All-take, Contains-append_left, Contains-push_cases}
@@ -60,13 +60,13 @@ way_without : (orders : List (ℕ × ℕ)) (i j : ℕ) (objects : List ℕ) (las
 way_without orders i j [] last apart way = tt
 way_without orders i j (a ∷ []) last apart way = (other_first orders i j a last (λ same. apart 0 0 (omega arith) (sym same)) way.0, tt)
 way_without orders i j (a ∷ b ∷ rest) last apart way =
-    (other_first orders i j a b (λ same. apart 0 0 (omega arith) (sym same)) way.0, way_without orders i j (b ∷ rest) last (λ k d within. apart (k + 1) d (omega arith)) way.1)
+    (other_first orders i j a b (λ same. apart 0 0 (omega arith) (sym same)) way.0, way_without orders i j (b ∷ rest) last (λ k d within. apart (suc k) d (omega arith)) way.1)
 
 -- the held orders lead back in a cycle that an order closes
 pub way_back : (orders : List (ℕ × ℕ)) (i j : ℕ) (objects : List ℕ) → (closes : ClosesCycle orders i j objects) → IsWay orders (j ∷ closes.others ++ i ∷ [])
 way_back orders i j objects closes =
     let cycle = subst (IsSimpleCycle (orders ++ (i, j) ∷ [])) closes.begins closes.is_cycle in
-    way_without orders i j (j ∷ closes.others) i (λ k d within. cycle.once 0 (k + 1) d (omega arith) (omega arith)) cycle.round.1
+    way_without orders i j (j ∷ closes.others) i (λ k d within. cycle.once 0 (suc k) d (omega arith) (omega arith)) cycle.round.1
 
 pub leads_if_closes : (orders : List (ℕ × ℕ)) (i j : ℕ) (objects : List ℕ) → ClosesCycle orders i j objects → Leads orders j i
 leads_if_closes orders i j objects closes = leads_along orders closes.others j i (way_back orders i j objects closes)
