@@ -5,6 +5,7 @@
 --   IsNextBelow n next                  each next object is below n
 --   IsWalk next start way               from start over each one's next object to one that has none, each once
 --   ComesRound next objects             each once, each one's next one is the next of the list, and the last one's the first
+--   Follows next start trail            the trail is the walk from start, or goes round
 --
 --   IsKnown next goal a                 a is the goal, or has a next object
 --   AllKnown before next goal           what is ordered before a known object is known
@@ -16,6 +17,8 @@
 use Rattle.std.specs.Prelude.{◌≡◌, ◌≢◌, ℕ, ◌<◌, List, [], ◌∷◌, ◌++◌, slice_index, slice_index_or, Option, Some, None, IsSome}
 use Rattle.order_graph.specs.Orders.{IsOnce, EachNext}
 use Rattle.order_graph.specs.Sets.{Has, IsBefore}
+use Rattle.order_graph.specs.declared.walk.Trail.{Trail}
+use Rattle.order_graph.specs.declared.walk.Trail.TheVariants as Trails
 
 abbrev pub IsNext : List (Option ℕ) → ℕ → ℕ → Type 0
 IsNext next a b = slice_index_or next a None ≡ Some b
@@ -38,6 +41,10 @@ pub record ComesRound (next : List (Option ℕ)) (objects : List ℕ) : Type 0 w
   pub whole : objects ≡ first ∷ rest
   pub once : IsOnce objects
   pub round : EachNext (IsNext next) (first ∷ rest ++ first ∷ [])
+
+abbrev pub Follows : List (Option ℕ) → ℕ → Trail → Type 0
+Follows next start (Trails.End way) = IsWalk next start way
+Follows next start (Trails.Round objects) = ComesRound next objects
 
 abbrev pub IsKnown : List (Option ℕ) → ℕ → ℕ → Type 0
 IsKnown next goal a = a ≢ goal → IsSome (slice_index_or next a None)

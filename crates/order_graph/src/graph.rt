@@ -5,7 +5,7 @@ ghost use Rattle.order_graph.specs.Sets.{AreNoted, AreFormer};
 use crate::answers::{Cycle, Order};
 use crate::leading::cycle_closed_by;
 use crate::placing::{before_with, order_of};
-use crate::sets::with;
+use crate::sets::{Objects, with};
 use std::marker::Model;
 
 /// Orders held among 1 to 16 objects, at most 256 of them.
@@ -14,10 +14,10 @@ pub struct OrderGraph {
     n: u32,
     len: usize,
     held: [(u32, u32); 256],
-    /// For each object the set of those that are ordered before it, as 16 bits.
-    before: [u16; 16],
+    /// For each object the set of those that are ordered before it.
+    before: [Objects; 16],
     /// For each order what `before` had for its second object until that order was held.
-    former: [u16; 256],
+    former: [Objects; 256],
 }
 
 impl Model for OrderGraph {

@@ -17,8 +17,9 @@ mod answers;
 mod graph;
 mod leading;
 mod placing;
+mod row;
 mod sets;
-mod way;
+mod walk;
 
 pub use answers::{Cycle, Order};
 pub use graph::OrderGraph;

@@ -7,8 +7,8 @@ pub follow-requires-clause-next : goal.follow-requires-clause-next
 follow-requires-clause-next c = backwards_below c.args.before.now c.args.left c.next_backwards.result c.ranges.left.fits c.next_backwards.ensures
 
 pub unreachable-requires : goal.unreachable-requires
-unreachable-requires c = no_end c.args.before.now c.args.left c.next_backwards.result c.args.start _ c.next_backwards.ensures c.requires.start c.in-Ok.ensures
+unreachable-requires c = no_end c.args.before.now c.args.left c.next_backwards.result c.args.start _ c.next_backwards.ensures c.requires.start c.in-End.ensures
 
 pub returns : goal.returns
 returns c orders noted =
-    subst (IsSimpleCycle orders) (sym c.reversed.ensures) (cycle_from_ring orders c.args.before.now c.args.left c.next_backwards.result noted c.requires.apart c.next_backwards.ensures _ c.in-Err.ensures)
+    subst (IsSimpleCycle orders) (sym c.reversed.ensures) (cycle_from_ring orders c.args.before.now c.args.left c.next_backwards.result noted c.requires.apart c.next_backwards.ensures _ c.in-Round.ensures)
