@@ -65,8 +65,8 @@ one_known before goal next i j within leads order unknown known =
           (next_cases next i j a b within step);
     }
 
--- Where the search stands. `known` has the objects that have a next one, and the goal; `todo` those of them before which an
--- unknown one may be ordered.
+-- Where the search stands. `known` has the objects that have a next one, and the goal; `todo` those of them before which
+-- an unknown one may be ordered.
 pub record IsSearch (before : List ℕ) (goal : ℕ) (next : List (Option ℕ)) (known todo : ℕ) : Type 0 where
   pub long : length next ≡ 16
   pub leads : LeadsOn before goal next

@@ -1,4 +1,5 @@
--- An order that keeps all orders and a cycle of them exclude each other; and a cycle that an order closes shows what leads where.
+-- An order that keeps all orders and a cycle of them exclude each other; and a cycle that an order closes shows what leads
+-- where.
 use Rattle.std.proofs.Common.{◌≡◌, ◌≢◌, ℕ, suc, ◌<◌, ◌≤◌, List, [], ◌∷◌, ◌++◌, length, get_or, take, drop, All, Contains, Result, Ok, Err, IsOk, IsErr, IfOk, IfErr, MatchResult, ◌↔◌, ◌⊎◌, inl, inr, ⊎_elim, refl, ap, sym, subst, ◌∙◌, arith}
 use Rattle.std.proofs.lemmas.Bool.{false≢true, cases_order}
 use Rattle.std.proofs.lemmas.List.{take-append-drop}

@@ -1,10 +1,10 @@
--- What the searches behind `add` and `complete` find. Each of 16 objects has a next object or none, and a set `before` of
--- those that are ordered before it.
+-- What the searches behind `add` and `complete` find. Each of 16 objects has a next object or none, and a set `before`
+-- of those that are ordered before it.
 --
 --   IsNext next a b                     b is the next object of a
 --   IsNextBelow n next                  each next object is below n
 --   IsWalk next start way               from start over each one's next object to one that has none, each once
---   ComesRound next objects             each once, each one's next one is the next of the list, and the last one's the first
+--   ComesRound next objects             each once, each one's next one follows it in the list, and the last one's is the first
 --   Follows next start trail            the trail is the walk from start, or goes round
 --
 --   IsKnown next goal a                 a is the goal, or has a next object

@@ -49,8 +49,8 @@ impl OrderGraph {
 
     /// Holds that `i` comes before `j`, unless `j` leads to `i` already.
     ///
-    /// Else the graph is as before, and `Err` has the cycle that the order would close: `i`, then `j`, then objects over
-    /// which held orders lead back to `i`, each object once.
+    /// Else the graph is as before, and `Err` has the cycle that the order would close: `i`, then `j`, then objects
+    /// over which held orders lead back to `i`, each object once.
     ///
     /// At 16 objects it takes at most 183 steps, however many orders are held: 31 turns of the search back from `i`, 16
     /// turns along the way from `j` that look at 120 objects passed there, and 16 moves that put `i` first.

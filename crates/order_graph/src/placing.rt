@@ -63,12 +63,12 @@ fn cycle_among(before: &[Objects; 16], left: Objects, start: u32) -> Cycle
 
 /// All `n` objects in an order that keeps the noted orders, or a cycle of these.
 ///
-/// The places are filled from the first to the last. For each the objects that are left are looked at until one is free:
-/// at 16 objects 16 looks, then 15, and so on, 136 at most.
+/// The places are filled from the first to the last. For each the objects that are left are looked at until one is
+/// free: at 16 objects 16 looks, then 15, and so on, 136 at most.
 ///
-/// Where none of L objects is free, the places before took L (L - 1) / 2 looks fewer. Each of the L gets its next one
-/// backwards, and the walk back takes L + 1 turns that look at (L - 1) (L + 2) / 2 objects passed: 136 + 3 L in all. The
-/// cycle is then moved to the front (16 moves) and reversed (8).
+/// Where none of the L objects left is free, L (L - 1) / 2 of these looks aren't taken. Each of the L gets its next
+/// one backwards (L), and the walk back takes L + 1 turns that look at (L - 1) (L + 2) / 2 objects passed: 136 + 3 L
+/// steps in all. The cycle is then moved to the front (16) and reversed (8).
 pub fn order_of(n: u32, before: &[Objects; 16]) -> Result<Order, Cycle>
     requires some { 1 ≤ n }
     requires few { n ≤ 16 }
