@@ -2,7 +2,7 @@ use Rattle.std.proofs.Common.{arith, ◌≡◌, ◌+◌, ◌∷◌, ◌++◌, []
 use Rattle.std.proofs.lemmas.List.{take_more}
 use Rattle.order_graph.specs.Sets.{AreNoted}
 use Rattle.order_graph.proofs.NoteLaws.{note_more}
-use Rattle.order_graph.proofs.placing.noted.Goals as goal
+use Rattle.order_graph.proofs.placing.before_with.Goals as goal
 
 pub loop-i-preserved : goal.loop-i-preserved
 loop-i-preserved c =

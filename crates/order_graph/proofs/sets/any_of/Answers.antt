@@ -1,7 +1,7 @@
 use Rattle.std.proofs.Common.{arith, ◌<◌}
 use Rattle.std.specs.Int.{w16}
 use Rattle.std.proofs.lemmas.Nat.Bits.{bit_at-trailing_zeros}
-use Rattle.order_graph.proofs.sets.least.Goals as goal
+use Rattle.order_graph.proofs.sets.any_of.Goals as goal
 
 pub returns : goal.returns
 returns c =

@@ -1,6 +1,6 @@
 use Rattle.std.proofs.Common.{◌≡◌, List, ◌++◌, length, take, ℕ}
 use Rattle.order_graph.specs.Sets.{AreNoted}
-use Rattle.order_graph.proofs.placing.noted.Given as goal
+use Rattle.order_graph.proofs.placing.before_with.Given as goal
 
 abbrev pub invariant-loop-i : goal.invariant-loop-i
 invariant-loop-i l = record {

@@ -1,5 +1,5 @@
 use Rattle.order_graph.proofs.PlacingLaws.{AreLinked}
-use Rattle.order_graph.proofs.placing.earlier.Given as goal
+use Rattle.order_graph.proofs.placing.next_backwards.Given as goal
 
 abbrev pub invariant-loop-k : goal.invariant-loop-k
 invariant-loop-k l = AreLinked l.before l.left l.rest l.next
