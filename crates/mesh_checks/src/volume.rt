@@ -5,7 +5,7 @@ ghost use Rattle.mesh_checks.specs.Volumes.{cross, dot, six_volume};
 use integer_laws::{difference, product, sum, wide_product};
 use seq_model::Facet;
 
-// One coordinate of a cross product.
+// One coordinate of a cross product: coordinates of at most 10 m in µm are below 2^24.
 fn minor(a: i64, b: i64, c: i64, d: i64) -> i128
     requires a { unsigned_abs a < 2 ^ 24 }
     requires b { unsigned_abs b < 2 ^ 24 }
@@ -26,7 +26,7 @@ fn scaled(a: i64, b: i128) -> i128
     product(i128::from(a), b)
 }
 
-// Six times the volume between the facet and the origin.
+// Six times the volume of the tetrahedron from the origin to the facet, negative where the facet looks toward the origin.
 fn volume_below(facet: &Facet) -> i128
     requires { IsNearFacet facet.now }
     ensures value { result ≡ dot facet.now.a (cross facet.now.b facet.now.c) }

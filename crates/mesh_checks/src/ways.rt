@@ -7,7 +7,7 @@ use seq_model::{Facet, Point3};
 use std::alloc::{AllocError, Global};
 use std::cmp::Ordering;
 
-// The way that a facet goes along an edge: the lower and the upper end of the edge, and whether it goes up.
+// A facet's way along an edge: the ends of the edge, of which `low` comes first by (x, y, z), and whether it goes from low to high.
 #[derive(Clone, Copy)]
 pub struct Way {
     pub low: Point3,
@@ -36,6 +36,7 @@ fn have_same_ends(v: &Way, w: &Way) -> bool
     compare_ends(v, w).is_eq()
 }
 
+// An edge from a point to itself has no way: it is its own reverse.
 fn add_way(found: &mut Vec<Way>, from: Point3, to: Point3) -> Result<(), AllocError>
     ensures { OnOk result (found.new.items ≡ found.old.items ++ way_of (edge from to)) }
 {
@@ -93,7 +94,7 @@ fn balance_with(balance: i64, way: &Way) -> i64
     }
 }
 
-// Goes through the runs of one edge: those forward and those back cancel each other, and what is left is open.
+// In a run of one edge the ways forward and those back cancel each other, and what is left is open.
 fn count_runs(ways: &[Way]) -> u64
     requires { length ways.now ≤ 600_000 }
     ensures { result ≡ all_runs ways.now }
@@ -115,7 +116,7 @@ fn count_runs(ways: &[Way]) -> u64
     open + balance.unsigned_abs()
 }
 
-// The ways in ascending order have those of one edge beside each other.
+// In ascending order the ways along one edge stand beside each other.
 pub fn count_open(alloc: Global, facets: &[Facet]) -> Result<u64, AllocError>
     requires { length facets.now ≤ 200_000 }
     ensures { IfOk result (λ count. count ≡ open_edges facets.now) }
