@@ -17,7 +17,7 @@ Once-from_pairs (e ∷ es) once = (
 )
 
 pub IsOnce-from_once : (es : List Edge) → Once es → IsOnce es
-IsOnce-from_once [] once i j d low high = absurd (omega arith)
+IsOnce-from_once [] once i j d low high q = absurd (omega arith)
 IsOnce-from_once (e ∷ es) once zero (suc j) d low high q = once.0 (In-from_contains es e (j, omega arith, sym q))
 IsOnce-from_once (e ∷ es) once (suc i) (suc j) d low high q = IsOnce-from_once es once.1 i j d (omega arith) (omega arith) q
 IsOnce-from_once (e ∷ es) once i zero d low high q = absurd (omega arith)
