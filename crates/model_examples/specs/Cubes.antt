@@ -2,6 +2,7 @@
 -- grid of 100 extents, under a printer whose tip has a nozzle around it and a gantry above.
 --
 --   spot x y, dir x y     the spot and the direction of these numbers
+--   east, northeast, north, west, southwest, south     directions, (1, 0) first
 --   at x y                the point of these whole numbers, half x y the point of their halves
 --   cube, wedge           the outlines of a cube and of a wedge, each the same for all bands
 --   nozzle, gantry        the corners of the two parts
@@ -19,6 +20,24 @@ spot x y = record { x = x; y = y }
 
 abbrev pub dir : ℤ → ℤ → Dir
 dir x y = record { x = x; y = y }
+
+abbrev pub east : Dir
+east = dir (pos 1) (pos 0)
+
+abbrev pub northeast : Dir
+northeast = dir (pos 1) (pos 1)
+
+abbrev pub north : Dir
+north = dir (pos 0) (pos 1)
+
+abbrev pub west : Dir
+west = dir (negsuc 0) (pos 0)
+
+abbrev pub southwest : Dir
+southwest = dir (negsuc 0) (negsuc 0)
+
+abbrev pub south : Dir
+south = dir (pos 0) (negsuc 0)
 
 abbrev pub at : ℤ → ℤ → Point
 at x y = record { x = x; y = y; d = pos 1 }

@@ -1,3 +1,4 @@
+pub mod Certificates
 pub mod Cubes
 pub mod Deciding
 pub mod Jobs

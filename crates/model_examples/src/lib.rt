@@ -9,4 +9,6 @@
 
 pub mod outlines;
 pub mod pairs;
+pub mod sides;
 pub mod systems;
+pub mod trees;
