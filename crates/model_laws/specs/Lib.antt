@@ -1,2 +1,5 @@
 pub mod Farkas
+pub mod Grounds
 pub mod Nested
+pub mod Reading
+pub mod Roots
