@@ -1,2 +1,4 @@
 pub mod Dictionaries
+pub mod Independence
+pub mod Kernel
 pub mod Walks
