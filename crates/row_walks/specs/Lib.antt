@@ -1,4 +1,5 @@
 pub mod Dictionaries
 pub mod Independence
 pub mod Kernel
+pub mod OneForm
 pub mod Walks
