@@ -3,3 +3,4 @@ pub mod Between
 pub mod CubeLaws
 pub mod SideLaws
 pub mod TreeLaws
+pub mod WalkLaws

@@ -3,3 +3,4 @@ pub mod Cubes
 pub mod Deciding
 pub mod Jobs
 pub mod Rows
+pub mod Solving

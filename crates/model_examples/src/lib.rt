@@ -12,3 +12,4 @@ pub mod pairs;
 pub mod sides;
 pub mod systems;
 pub mod trees;
+pub mod walks;

@@ -2,4 +2,5 @@ pub mod Dictionaries
 pub mod Independence
 pub mod Kernel
 pub mod OneForm
+pub mod OneWalk
 pub mod Walks

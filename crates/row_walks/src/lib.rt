@@ -1,16 +1,28 @@
 //! Linear rows by bases: the forms of a basis, and the walk of the least-index rule.
 //!
-//! Definitions of what the solver of a system does: `Dictionaries` has the form of a basis and when it is wide,
-//! `Walks` the walk from basis to basis. They stand on the rows of `seq_model` and on nothing else of it. The calls here do
-//! nothing: each is a law that its contract states.
+//! Definitions of what the solver of a system does: `Dictionaries` has the form of a basis and when it is wide, `Walks` the walk
+//! from basis to basis. They stand on the rows of `seq_model` and on nothing else of it. The calls here do nothing: each is a
+//! law that its contract states. The main one is that a basis has at most one form, so that "the form", "the walk" and "wide"
+//! mean one thing; its lemmas are in `specs/`, from a solution of few equations (`Kernel`) to independent variables.
 #![tactic(auto)]
 
-ghost use Rattle.std.specs.Prelude.{◌≡◌, ℕ, List, Some};
-ghost use Rattle.std.specs.Prelude.{slice_get};
+ghost use Rattle.std.specs.Prelude.{◌≡◌, ℕ, List, IsTrue, ◌↔◌};
 ghost use Rattle.seq_model.specs.Systems.{Row};
+ghost use Rattle.row_walks.specs.Dictionaries.{Form, WideAt, is_wide, line_of};
 ghost use Rattle.row_walks.specs.Walks.{Walk};
 
-/// A walk begins with its start.
-pub fn a_walk_begins_with_its_start()
-    ensures { (vars : ℕ) (rows : List Row) (start : List ℕ) (bases : List (List ℕ)) → Walk vars rows start bases → slice_get bases 0 ≡ Some start }
+/// A basis has at most one form.
+pub fn a_basis_has_one_form_at_most()
+    ensures { (vars : ℕ) (rows : List Row) (basis : List ℕ) (f g : Form vars rows basis) → (f.d ≡ g.d) × (f.lines ≡ g.lines) }
+{}
+
+/// The form of a basis decides where it is wide.
+pub fn a_form_decides_where_it_is_wide()
+    ensures { (vars : ℕ) (rows : List Row) (basis : List ℕ) (f : Form vars rows basis) (row : ℕ)
+        → WideAt vars rows basis row ↔ IsTrue (is_wide f.d (line_of row basis f.lines)) }
+{}
+
+/// A start has at most one walk.
+pub fn a_start_has_one_walk_at_most()
+    ensures { (vars : ℕ) (rows : List Row) (start : List ℕ) (bases others : List (List ℕ)) → Walk vars rows start bases → Walk vars rows start others → bases ≡ others }
 {}
