@@ -1,8 +1,8 @@
 -- No direction strictly between two neighbouring sides is a side: the corner that the two share is alone the farthest along it.
-use Rattle.std.proofs.Common.{◌≡◌, ℕ, List, [], ◌∷◌, ap₂, sym, ◌∙◌, subst, arith, ℤ, pos, ◌+ℤ◌, ◌-ℤ◌, ◌*ℤ◌, ◌≤ℤ◌, ◌<ℤ◌, map, inl, inr, refl, ap}
+use Rattle.std.proofs.Common.{◌≡◌, List, [], ◌∷◌, ap₂, sym, ◌∙◌, subst, arith, ℤ, pos, ◌+ℤ◌, ◌-ℤ◌, ◌*ℤ◌, ◌≤ℤ◌, ◌<ℤ◌, map, inl, inr, refl}
 use Rattle.std.proofs.lemmas.Int.{ints, fold-int_max_bounds}
 use Rattle.integer_laws.specs.Members.{In, In-from_contains, In-map, All-in}
-use Rattle.integer_laws.specs.Order.{cancel_same, le_from, same_from, add_le, add_same, mul_nonneg, mul_same, le_of_same}
+use Rattle.integer_laws.specs.Order.{cancel_same, le_from, same_from, add_le, mul_nonneg, mul_same, le_of_same}
 use Rattle.integer_laws.specs.Ring.{expand}
 use Rattle.seq_model.specs.Sides.{along, greatest_along, Side}
 use Rattle.seq_model.specs.declared.printer.Spot.{Spot}

@@ -1,9 +1,8 @@
 -- The sides of two wedges and of two cubes with the nozzle: each of the directions is one, and nothing else is.
-use Rattle.std.proofs.Common.{◌≡◌, ℕ, ◌<◌, List, [], ◌∷◌, length, get_or, refl, ap, ap₂, sym, ◌∙◌, subst, arith, ℤ, pos, negsuc, ◌+ℤ◌, ◌-ℤ◌, ◌*ℤ◌, ◌≤ℤ◌, ◌<ℤ◌, ◌⊎◌, inl, inr, Bool, true, Contains, All, AllPairs, lit<, unsigned_abs}
+use Rattle.std.proofs.Common.{◌≡◌, ℕ, ◌<◌, List, [], ◌∷◌, length, get_or, refl, ap, ap₂, sym, ◌∙◌, subst, arith, ℤ, pos, negsuc, ◌≤ℤ◌, ◌<ℤ◌, ◌⊎◌, inl, inr, true, AllPairs, lit<, unsigned_abs}
 use Rattle.std.proofs.Math.Nat.{eq-one_of_dvd-one}
 use Rattle.std.proofs.lemmas.Int.{ints, by_lt_z}
 use Rattle.std.proofs.lemmas.List.Kept.{AllPairs-cons}
-use Rattle.std.proofs.lemmas.List.Elements.{All-nil}
 use Rattle.std.proofs.lemmas.List.Sums.{AllPass-from_list_all}
 use Rattle.std.proofs.lemmas.Nat.Gcd.{dvd_refl, dvd-zero}
 use Rattle.std.specs.Int.{◌∣◌}
@@ -16,7 +15,7 @@ use Rattle.model_examples.specs.Cubes.{spot, dir, cube, wedge, nozzle, east, nor
 use Rattle.model_examples.specs.Deciding.{EachOf, all_of, le_true}
 use Rattle.model_examples.proofs.Between.{cross, no_side_between}
 use Rattle.seq_model.specs.Contacts.{difference}
-use Rattle.seq_model.specs.Sides.{along, greatest_along, Side, IsUpper, HasLesserAngle, AreSides}
+use Rattle.seq_model.specs.Sides.{along, Side, IsUpper, HasLesserAngle, AreSides}
 use Rattle.seq_model.specs.declared.printer.Spot.{Spot}
 use Rattle.seq_model.specs.declared.tree.Dir.{Dir}
 

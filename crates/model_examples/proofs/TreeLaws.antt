@@ -1,18 +1,18 @@
 -- The tree that refutes extent 45 for two cubes, and the one that doesn't.
-use Rattle.std.proofs.Common.{◌≡◌, ℕ, ◌<◌, ◌≤◌, List, [], ◌∷◌, ◌++◌, length, refl, ap, sym, subst, arith, ℤ, pos, negsuc, ◌≤ℤ◌, lit<, inl, inr, map, drop, get_or, All}
+use Rattle.std.proofs.Common.{◌≡◌, ℕ, ◌<◌, List, [], ◌∷◌, ◌++◌, length, refl, subst, arith, ℤ, pos, negsuc, ◌≤ℤ◌, lit<, inl, inr, map, drop, get_or, All}
 use Rattle.std.proofs.lemmas.Int.{ints}
 use Rattle.std.proofs.lemmas.List.Elements.{All-get_or}
 use lib.Signed.{le_z_yes}
 use Rattle.integer_laws.specs.Members.{In, In-from_contains, Contains-from_in}
 use Rattle.model_examples.specs.Certificates.{four_sides, bound, tree}
-use Rattle.model_examples.specs.Cubes.{first_contact, second_contact, east, north, west, south}
+use Rattle.model_examples.specs.Cubes.{first_contact, second_contact}
 use Rattle.model_examples.specs.Deciding.{contradiction_is}
 use Rattle.model_examples.specs.Jobs.{two_cubes}
 use Rattle.model_examples.specs.Rows.{times}
 use Rattle.model_examples.proofs.SideLaws.{cube_sides, cube_points}
-use Rattle.seq_model.specs.Contacts.{IsContact, points_of}
-use Rattle.seq_model.specs.Sides.{Side, AreSides}
-use Rattle.seq_model.specs.Systems.{system, sum_coefficients, Contradiction}
+use Rattle.seq_model.specs.Contacts.{IsContact}
+use Rattle.seq_model.specs.Sides.{AreSides}
+use Rattle.seq_model.specs.Systems.{system, Contradiction}
 use Rattle.seq_model.specs.Trees.{IsSoundNode, IsClosed, Reads, Refutes}
 use Rattle.seq_model.specs.declared.tree.Choice.{Choice}
 use Rattle.seq_model.specs.declared.tree.Choice.TheVariants as Choices

@@ -1,5 +1,5 @@
 -- The walks of two small systems.
-use Rattle.std.proofs.Common.{◌≡◌, ℕ, zero, suc, ◌<◌, ◌≤◌, List, [], ◌∷◌, refl, sym, subst, arith, ℤ, pos, negsuc, ◌-ℤ◌, ◌*ℤ◌, Bool, true, false, Some, None, inl, inr, IsTrue, lit<}
+use Rattle.std.proofs.Common.{ℕ, zero, suc, ◌<◌, ◌≤◌, [], ◌∷◌, refl, sym, subst, arith, pos, negsuc, ◌-ℤ◌, ◌*ℤ◌, Bool, true, false, Some, None, inl, inr, IsTrue, lit<}
 use Rattle.std.proofs.Math.Nat.{lt_of_not-le, eq-one_of_dvd-one}
 use Rattle.std.specs.Prelude.{nat_eq, if◌then◌else◌}
 use lib.Dec.{T}
@@ -7,7 +7,7 @@ use lib.Signed.{le_z_yes}
 use Rattle.model_examples.specs.Solving.{FormIs, one_row, big, wide_rows}
 use Rattle.row_walks.specs.Dictionaries.{Form, WideAt, is_wide, line_of}
 use Rattle.row_walks.specs.OneWalk.{wide_decided}
-use Rattle.row_walks.specs.Walks.{IsNext, IsWide, Steps, Walk, WalkWide}
+use Rattle.row_walks.specs.Walks.{IsNext, IsWide, Walk, WalkWide}
 
 -- ---- one row
 slack_form : Form 1 one_row (1 ∷ [])

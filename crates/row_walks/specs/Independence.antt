@@ -3,7 +3,7 @@
 --   IsIndependent vs       no combination of the vectors vanishes, but the one of zeros
 --   vectors_of vars rows basis   one, and what the free variables mean
 --   independent            they are independent where the basis has a form
-use Rattle.std.proofs.Common.{◌≡◌, ℕ, zero, suc, ◌+◌, ◌-◌, ◌<◌, ◌≤◌, List, [], ◌∷◌, length, map, get_or, replicate, refl, ap, sym, subst, ◌∙◌, arith, ℤ, pos, ◌+ℤ◌, ◌*ℤ◌, ◌≤ℤ◌, ◌⊎◌, inl, inr, Bool, true, false, ◌||◌}
+use Rattle.std.proofs.Common.{◌≡◌, ℕ, zero, suc, ◌+◌, ◌-◌, ◌<◌, ◌≤◌, List, [], ◌∷◌, length, map, get_or, replicate, refl, ap, sym, subst, ◌∙◌, arith, ℤ, pos, ◌+ℤ◌, ◌*ℤ◌, ◌⊎◌, inl, inr, Bool, true, false, ◌||◌}
 use Rattle.std.proofs.lemmas.Bool.{cases_lt}
 use Rattle.std.proofs.lemmas.Bool.Decides.{nat_tests}
 use Rattle.std.proofs.lemmas.Int.{ints}
@@ -11,10 +11,10 @@ use Rattle.std.proofs.lemmas.List.{length-map}
 use Rattle.std.proofs.lemmas.List.Filters.{length-filter_both}
 use Rattle.std.proofs.lemmas.List.FromFn.{length-range_with_len}
 use Rattle.std.specs.Prelude.{not, nat_eq, nat_lt, if◌then◌else◌, slice_set, cond}
-use Rattle.std.specs.List.{filter, list_any, range_with_len}
+use Rattle.std.specs.List.{filter, range_with_len}
 use Rattle.integer_laws.specs.Members.{In, In-map}
 use Rattle.integer_laws.specs.Ring.{expand}
-use Rattle.integer_laws.specs.Vectors.{dot, plus, scale, unit, dot-plus, dot-scale, dot-unit}
+use Rattle.integer_laws.specs.Vectors.{dot, scale, unit, dot-plus, dot-scale, dot-unit}
 use lib.Dec.{T}
 use Rattle.row_walks.specs.Dictionaries.{meaning, one, combination, is_in, free_of, Says, Rises, Form}
 use Rattle.row_walks.specs.Kernel.{Kernel, kernel, zero_or_not, cancel_factor}
@@ -126,14 +126,14 @@ independent_if n vs few only es long none j = by (cases_lt j (length es))
         decide (inr n0) = absurd (place h n0)
 
 -- ---- which variables are free
-true_or_false : (b : Bool) → (b ≡ true) ⊎ (b ≡ false)
+pub true_or_false : (b : Bool) → (b ≡ true) ⊎ (b ≡ false)
 true_or_false true = inl refl
 true_or_false false = inr refl
 
-equal_is : (x y : ℕ) → nat_eq x y ≡ true → x ≡ y
+pub equal_is : (x y : ℕ) → nat_eq x y ≡ true → x ≡ y
 equal_is x y e = grind (arith, nat_tests)
 
-in_basis : (basis : List ℕ) (z : ℕ) → is_in basis z ≡ true → In z basis
+pub in_basis : (basis : List ℕ) (z : ℕ) → is_in basis z ≡ true → In z basis
 in_basis [] z e = absurd (subst T (sym e) tt)
 in_basis (b ∷ basis) z e = by (true_or_false (nat_eq z b)) (in_basis basis z)
   where
@@ -141,7 +141,7 @@ in_basis (b ∷ basis) z e = by (true_or_false (nat_eq z b)) (in_basis basis z)
     by (inl t) later = inl (equal_is z b t)
     by (inr f) later = inr (later (ap (λ t. t || is_in basis z) (sym f) ∙ e))
 
-is_in_member : (basis : List ℕ) (z : ℕ) → In z basis → is_in basis z ≡ true
+pub is_in_member : (basis : List ℕ) (z : ℕ) → In z basis → is_in basis z ≡ true
 is_in_member [] z i = absurd i
 is_in_member (b ∷ basis) z (inl s) = ap (λ t. t || is_in basis z) (same z b s)
   where
@@ -153,7 +153,7 @@ is_in_member (b ∷ basis) z (inr i) = ap (λ t. nat_eq z b || t) (is_in_member 
     any true = refl
     any false = refl
 
-In-filter : (p : ℕ → Bool) (xs : List ℕ) (x : ℕ) → p x ≡ true → In x xs → In x (filter p xs)
+pub In-filter : (p : ℕ → Bool) (xs : List ℕ) (x : ℕ) → p x ≡ true → In x xs → In x (filter p xs)
 In-filter p [] x e i = absurd i
 In-filter p (y ∷ xs) x e (inl s) = subst (λ b. In x (cond b (y ∷ filter p xs) (filter p xs))) (sym (ap p (sym s) ∙ e)) (inl s)
 In-filter p (y ∷ xs) x e (inr i) = kept (p y) (In-filter p xs x e i)
@@ -162,7 +162,7 @@ In-filter p (y ∷ xs) x e (inr i) = kept (p y) (In-filter p xs x e i)
     kept true rest = inr rest
     kept false rest = rest
 
-In-range : (a n x : ℕ) → a ≤ x → x < a + n → In x (range_with_len a n)
+pub In-range : (a n x : ℕ) → a ≤ x → x < a + n → In x (range_with_len a n)
 In-range a zero x h k = absurd (omega (arith, h, k))
 In-range a (suc n) x h k = by (cases_lt a x) (λ l. In-range (a + 1) n x (omega (arith, l)) (omega (arith, k)))
   where
@@ -171,7 +171,7 @@ In-range a (suc n) x h k = by (cases_lt a x) (λ l. In-range (a + 1) n x (omega 
     by (inr l) later = inl (omega (arith, h, l))
 
 -- ---- a rising basis takes as many variables as it has
-abbrev Climbs : ℕ → ℕ → List ℕ → Type 0
+abbrev pub Climbs : ℕ → ℕ → List ℕ → Type 0
 Climbs low end [] = Unit {0}
 Climbs low end (z ∷ zs) = (low ≤ z) × (z < end) × Climbs (z + 1) end zs
 
@@ -181,7 +181,7 @@ climbs end low z (y ∷ zs) h r =
     let c = climbs end (z + 1) y zs (omega (arith, r.0)) r.1 in
     (h, omega (arith, r.0, c.1), c)
 
-from_zero : (end : ℕ) (zs : List ℕ) → Rises end zs → Climbs 0 end zs
+pub from_zero : (end : ℕ) (zs : List ℕ) → Rises end zs → Climbs 0 end zs
 from_zero end [] r = tt
 from_zero end (z ∷ zs) r = climbs end 0 z zs (omega arith) r
 

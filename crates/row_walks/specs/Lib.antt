@@ -3,4 +3,5 @@ pub mod Independence
 pub mod Kernel
 pub mod OneForm
 pub mod OneWalk
+pub mod Pivots
 pub mod Walks

@@ -1,18 +1,18 @@
 -- A basis has at most one form.
 --
 --   one_form      two forms of a basis have the same denominator and the same lines
-use Rattle.std.proofs.Common.{◌≡◌, ℕ, zero, suc, ◌+◌, ◌*◌, ◌/◌, ◌%◌, ◌<◌, ◌≤◌, max, List, [], ◌∷◌, length, map, get_or, refl, ap, sym, subst, ◌∙◌, arith, ℤ, pos, negsuc, ◌+ℤ◌, ◌-ℤ◌, ◌*ℤ◌, ◌≤ℤ◌, ◌<ℤ◌, All, unsigned_abs}
+use Rattle.std.proofs.Common.{◌≡◌, ℕ, zero, suc, ◌+◌, ◌*◌, ◌/◌, ◌<◌, List, [], ◌∷◌, length, map, get_or, refl, ap, sym, subst, ◌∙◌, arith, ℤ, pos, negsuc, ◌+ℤ◌, ◌-ℤ◌, ◌*ℤ◌, ◌≤ℤ◌, ◌<ℤ◌, unsigned_abs}
 use Rattle.std.proofs.lemmas.Int.{ints, unsigned_abs-mul}
 use Rattle.std.proofs.lemmas.List.{length-map}
 use Rattle.std.proofs.lemmas.Nat.Gcd.{dvd_antisymm, mod-eq-zero_of_dvd}
 use Rattle.std.proofs.Math.Nat.{mul-one, dvd-mul_right, dvd-mul_left, dvd_of_mul-dvd-mul_left, div-add-mod}
-use Rattle.std.specs.Int.{IsGcd, ◌∣◌}
+use Rattle.std.specs.Int.{◌∣◌}
 use Rattle.integer_laws.specs.Divisors.{gcd_is, gcd_mul}
 use Rattle.integer_laws.specs.Order.{cancel_same}
 use Rattle.integer_laws.specs.Ring.{expand}
-use Rattle.integer_laws.specs.Vectors.{plus, scale, combined, get_or-plus, get_or-scale, get_or-combined, length-combined}
+use Rattle.integer_laws.specs.Vectors.{scale, combined, get_or-plus, get_or-scale, get_or-combined, length-combined}
 use Rattle.row_walks.specs.Dictionaries.{Form, Says, combination, one, meaning, free_of, DividesAll}
-use Rattle.row_walks.specs.Independence.{IsIndependent, vectors_of, independent}
+use Rattle.row_walks.specs.Independence.{IsIndependent, independent}
 use Rattle.seq_model.specs.Systems.{Row}
 
 -- ---- a combination of combined numbers
@@ -131,9 +131,8 @@ one_form vars rows basis f g =
     let free = free_of (vars + length rows) basis in
     let one_way = all_proportional vars rows f.d g.d free (independent vars rows basis f) basis f.lines g.lines f.says g.says in
     let d : f.d ≡ g.d = same_size f.d g.d (positive f.d f.positive) (positive g.d g.positive)
-            (dvd_antisymm (divides_other f.d g.d f.lines g.lines (positive f.d f.positive) f.least one_way) (divides_other g.d f.d g.lines f.lines (positive g.d g.positive) g.least (λ r j. sym (one_way r j)))) in
-    let says : Says vars rows f.d free basis g.lines = subst (λ t. Says vars rows t free basis g.lines) (sym d) g.says in
-    (
+    (dvd_antisymm (divides_other f.d g.d f.lines g.lines (positive f.d f.positive) f.least one_way) (divides_other g.d f.d g.lines f.lines (positive g.d g.positive) g.least (λ r j. sym (one_way r j)))) in
+    let says : Says vars rows f.d free basis g.lines = subst (λ t. Says vars rows t free basis g.lines) (sym d) g.says in (
       d,
       lines_same vars rows f.d free (positive f.d f.positive) basis f.lines g.lines f.says says (λ r j. subst (λ t. t *ℤ get_or (get_or f.lines r []) j (pos 0) ≡ f.d *ℤ get_or (get_or g.lines r []) j (pos 0)) (sym d) (one_way r j)),
     )
