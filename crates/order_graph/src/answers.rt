@@ -1,8 +1,8 @@
-ghost use Rattle.std.specs.Prelude.{ℕ, ◌≤◌, List, take};
+ghost use Rattle.std.specs.Prelude.{◌≡◌, ℕ, ◌≤◌, List, take, reverse};
 
 use std::marker::Model;
 
-/// Objects of which each is ordered before the next one, and the last before the first.
+/// Different objects of which each is ordered before the next one, and the last before the first.
 ///
 /// They are the first `len` of `objects`.
 #[derive(Debug, Drop)]
@@ -17,6 +17,17 @@ impl Model for Cycle {
     ghost view = { λ c. take c.len c.objects };
 
     ghost invariant = { λ c. c.len ≤ 16 };
+}
+
+impl Cycle {
+    /// The same objects, last first.
+    pub(crate) fn reversed(self) -> Cycle
+        ensures { result ≡ reverse self }
+    {
+        let Cycle { len, mut objects } = self;
+        objects[..len as usize].reverse();
+        Cycle { len, objects }
+    }
 }
 
 /// All objects of a graph, first the one that comes first.

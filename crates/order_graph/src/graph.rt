@@ -1,17 +1,24 @@
 ghost use Rattle.std.specs.Prelude.{◌≡◌, ◌≢◌, ◌↔◌, ℕ, ◌-◌, ◌<◌, ◌≤◌, List, [], ◌∷◌, ◌++◌, length, take, IsOk, IsErr, IfOk, IfErr, OnOk, OnErr};
-ghost use Rattle.order_graph.specs.Orders.{Graph, IsGraph, AreAmong, Leads, ClosesCycle, IsCycle, HasCycle, IsOrder, HasOrder};
+ghost use Rattle.order_graph.specs.Orders.{Graph, IsGraph, AreAmong, Leads, ClosesCycle, IsSimpleCycle, HasCycle, IsOrder, HasOrder};
+ghost use Rattle.order_graph.specs.Sets.{AreNoted, AreFormer};
 
 use crate::answers::{Cycle, Order};
 use crate::leading::cycle_closed_by;
-use crate::placing::order_of;
+use crate::placing::{noted, order_of};
+use crate::sets::with;
 use std::marker::Model;
 
 /// Orders held among 1 to 16 objects, at most 256 of them.
+///
+/// Beside the list of orders it keeps for each object the set of those that are ordered before it, as 16 bits; and for
+/// each order, what its second object's set was before that order was held.
 #[derive(Drop)]
 pub struct OrderGraph {
     n: u32,
     len: usize,
     held: [(u32, u32); 256],
+    before: [u16; 16],
+    former: [u16; 256],
 }
 
 impl Model for OrderGraph {
@@ -19,10 +26,14 @@ impl Model for OrderGraph {
 
     ghost view = { λ g. record { objects = g.n; held = take g.len g.held } };
 
-    ghost invariant = { λ g. (g.len ≤ 256) × IsGraph g.n (take g.len g.held) };
+    ghost invariant = { λ g. (g.len ≤ 256)
+        × IsGraph g.n (take g.len g.held)
+        × AreNoted (take g.len g.held) g.before
+        × AreFormer (take g.len g.held) g.former };
 }
 
 impl OrderGraph {
+    /// A graph of `n` objects, numbered from 0, that holds no order.
     pub fn new(n: u32) -> Self
         requires some { 1 ≤ n }
         requires few { n ≤ 16 }
@@ -32,12 +43,15 @@ impl OrderGraph {
             n,
             len: 0,
             held: [(0, 0); 256],
+            before: [0; 16],
+            former: [0; 256],
         }
     }
 
     /// Holds that `i` comes before `j`, unless `j` leads to `i` already.
     ///
-    /// Reads the held orders once for each object that leads to `i`, and once more.
+    /// The search for a way takes at most 31 turns, and the walk along it 16 that look at 120 passed objects: fewer than 200
+    /// steps at 16 objects, however many orders are held.
     pub fn add(&mut self, i: u32, j: u32) -> Result<(), Cycle>
         requires first { i < self.old.objects }
         requires second { j < self.old.objects }
@@ -50,10 +64,13 @@ impl OrderGraph {
         ensures cycle { IfErr result (ClosesCycle self.old.held i j) }
         ensures unchanged { OnErr result (self.new ≡ self.old) }
     {
-        if let Some(cycle) = cycle_closed_by(&self.held[..self.len], i, j) {
+        if let Some(cycle) = cycle_closed_by(&self.before, i, j) {
             return Err(cycle);
         }
+        let earlier = self.before[j as usize];
         self.held[self.len] = (i, j);
+        self.former[self.len] = earlier;
+        self.before[j as usize] = with(earlier, i);
         self.len += 1;
         Ok(())
     }
@@ -64,15 +81,18 @@ impl OrderGraph {
         ensures { self.new ≡ record self.old { held = take (length self.old.held - 1) self.old.held } }
     {
         self.len -= 1;
+        let (_, j) = self.held[self.len];
+        self.before[j as usize] = self.former[self.len];
     }
 
     /// Puts all objects in an order that keeps the held orders and the forced ones, or finds a cycle of these.
     ///
-    /// Reads the held and the forced orders once for each object.
+    /// Reads the forced orders once. Besides, it takes fewer than 210 steps at 16 objects, however many orders are held: 136
+    /// looks for objects that can be placed, and fewer of these the longer a cycle is that has to be walked.
     pub fn complete(&self, forced: &[(u32, u32)]) -> Result<Order, Cycle>
         requires { AreAmong self.now.objects forced.now }
         ensures order { IfOk result (IsOrder self.now.objects (self.now.held ++ forced.now)) }
-        ensures cycle { IfErr result (IsCycle (self.now.held ++ forced.now)) }
+        ensures cycle { IfErr result (IsSimpleCycle (self.now.held ++ forced.now)) }
 
         // The answer isn't a matter of choice, though the order and the cycle may be.
         ensures order_exactly { IsOk result ↔ HasOrder self.now.objects (self.now.held ++ forced.now) }
@@ -82,7 +102,8 @@ impl OrderGraph {
         ensures acyclic { HasCycle self.now.held → ⊥ }
         ensures whole { IfOk result (λ order. length order ≡ self.now.objects) }
     {
-        order_of(self.n, &self.held[..self.len], forced)
+        let before = noted(&self.before, forced);
+        order_of(self.n, &before)
     }
 }
 

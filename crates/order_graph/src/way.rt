@@ -1,7 +1,7 @@
 ghost use Rattle.std.specs.Prelude.{◌≡◌, ℕ, ◌-◌, ◌<◌, ◌≤◌, List, [], ◌∷◌, ◌++◌, length, slice_index, take, drop, MatchOption, MatchResult, Contains};
-ghost use Rattle.order_graph.specs.Walks.{IsNextBelow, IsWalk, IsRing};
+ghost use Rattle.order_graph.specs.Walks.{IsNextBelow, IsWalk, ComesRound};
 
-use crate::answers::Cycle;
+use crate::answers::{Cycle, Order};
 use std::marker::Model;
 
 /// Objects that a search passes one after the other.
@@ -46,11 +46,14 @@ impl Way {
         self.objects[..self.len].iter().position(|&o| o == object)
     }
 
-    pub fn last(&self) -> u32
-        requires { 0 < length self.now }
-        ensures { result ≡ slice_index self.now (length self.now - 1) }
+    pub fn into_order(self) -> Order
+        ensures { result ≡ self }
     {
-        self.objects[self.len - 1]
+        let Way { len, objects } = self;
+        Order {
+            len: len as u32,
+            objects,
+        }
     }
 
     /// The part of the way from a place on.
@@ -84,7 +87,7 @@ impl Way {
 pub fn follow(next: &[Option<u32>; 16], start: u32) -> Result<Way, Cycle>
     requires start { start < 16 }
     requires next { IsNextBelow 16 next.now }
-    ensures { MatchResult result (IsWalk next.now start) (IsRing next.now) }
+    ensures { MatchResult result (IsWalk next.now start) (ComesRound next.now) }
 {
     let mut way = Way::new();
     let mut at = start;
