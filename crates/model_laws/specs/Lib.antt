@@ -1,3 +1,4 @@
+pub mod Collisions
 pub mod Farkas
 pub mod Grounds
 pub mod Nested

@@ -5,12 +5,13 @@
 --   joined, parted   trees for some paths and trees for others, one after the other
 --   path_also        one more choice on a path of the job
 --   children_are_paths   the children of a sound node at a path of the job stand at paths of the job
+--   reads_paths          and so does whatever is read below such paths
 use Rattle.std.proofs.Common.{◌≡◌, ℕ, inl, inr, List, [], ◌∷◌, ◌++◌, All, Contains, length, arith, refl, sym, ap, subst, map, append_assoc, append-nil}
-use Rattle.std.proofs.lemmas.List.Elements.{All-nil, All-cons}
+use Rattle.std.proofs.lemmas.List.Elements.{All-nil, All-cons, All-head, All-tail, All-append}
 use Rattle.integer_laws.specs.Members.{In, Contains-from_in}
 use Rattle.seq_model.specs.Contacts.{IsContact, points_of}
 use Rattle.seq_model.specs.Sides.{Side}
-use Rattle.seq_model.specs.Trees.{also, MayFollow, Follow, IsPath, AreChildren, IsSoundNode, Reads}
+use Rattle.seq_model.specs.Trees.{also, MayFollow, Follow, IsPath, AreChildren, IsSoundNode, IsClosed, Reads, IsTree, Refutes}
 use Rattle.seq_model.specs.declared.job.Job.{Job}
 use Rattle.seq_model.specs.declared.tree.Choice.{Choice}
 use Rattle.seq_model.specs.declared.tree.Choice.TheVariants as Choices
@@ -88,3 +89,16 @@ children_are_paths job e path (Nodes.Side contact children) paths p s k =
 children_are_paths job e path (Nodes.Bound mults) paths p s k = subst (All (IsPath job)) (sym k) (All-nil (IsPath job))
 children_are_paths job e path (Nodes.Cycle objects) paths p s k = subst (All (IsPath job)) (sym k) (All-nil (IsPath job))
 children_are_paths job e path Nodes.Pending paths p s k = subst (All (IsPath job)) (sym k) (All-nil (IsPath job))
+
+-- whatever is read below paths of the job stands at paths of the job, where it is sound
+pub reads_paths : (job : Job) (e : ℕ) (Good : List Choice → Node → Type 0) → ((path : List Choice) (node : Node) → Good path node → IsSoundNode job e path node)
+    → (nodes : List Node) (todo left : List (List Choice)) → All (IsPath job) todo → Reads job Good todo nodes left → Reads job (λ path node. Good path node × IsPath job path) todo nodes left
+reads_paths job e Good sound [] todo left all r = r
+reads_paths job e Good sound (node ∷ nodes) [] left all r = absurd r
+reads_paths job e Good sound (node ∷ nodes) (path ∷ todo) left all r =
+    let here = All-head (IsPath job) path todo all in
+    let below = children_are_paths job e path node r.1 here (sound path node r.0) r.2 in
+    ((r.0, here), r.1, r.2, reads_paths job e Good sound nodes (r.1 ++ todo) left (All-append (IsPath job) r.1 todo below (All-tail (IsPath job) path todo all)) r.3)
+
+pub tree_of_paths : (job : Job) (e : ℕ) (nodes : List Node) → Refutes job e [] nodes → IsTree job (λ path node. (IsSoundNode job e path node × IsClosed node) × IsPath job path) [] nodes
+tree_of_paths job e nodes r = reads_paths job e (λ path node. IsSoundNode job e path node × IsClosed node) (λ path node g. g.0) nodes ([] ∷ []) [] (All-cons (IsPath job) [] [] tt (All-nil (IsPath job))) r

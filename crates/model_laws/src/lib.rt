@@ -7,6 +7,7 @@
 //! The lemmas stand in `specs/`, for the crates that search and check to cite.
 #![tactic(auto)]
 
+pub mod collisions;
 pub mod extents;
 pub mod rows;
 pub mod splits;

@@ -2,7 +2,7 @@
 
 ghost use Rattle.std.specs.Prelude.{◌≡◌, ℕ, List, [], ◌∷◌, Contains, All, ◌↔◌};
 ghost use Rattle.seq_model.specs.Systems.{system, Contradiction};
-ghost use Rattle.seq_model.specs.Trees.{IsCycle, IsPath, AreChildren, IsSoundNode, Refutes};
+ghost use Rattle.seq_model.specs.Trees.{IsCycle, IsPath, AreChildren, IsSoundNode, IsClosed, IsTree, Refutes};
 ghost use Rattle.seq_model.specs.declared.job.Job.{Job};
 ghost use Rattle.seq_model.specs.declared.tree.Choice.{Choice};
 ghost use Rattle.seq_model.specs.declared.tree.Choice.TheVariants as Choices;
@@ -29,8 +29,11 @@ pub fn a_tree_refutes_by_its_root()
     ensures none { (job : Job) (e : ℕ) (path : List Choice) → Refutes job e path [] → ⊥ }
 {}
 
-/// The children of a sound node at a path of the job stand at paths of the job.
-pub fn children_stand_at_paths()
-    ensures { (job : Job) (e : ℕ) (path : List Choice) (node : Node) (paths : List (List Choice))
+/// The children of a sound node at a path of the job stand at paths of the job, and so each node of a tree that refutes the empty path
+/// stands at one.
+pub fn nodes_stand_at_paths()
+    ensures children { (job : Job) (e : ℕ) (path : List Choice) (node : Node) (paths : List (List Choice))
         → IsPath job path → IsSoundNode job e path node → AreChildren job path node paths → All (IsPath job) paths }
+    ensures all { (job : Job) (e : ℕ) (nodes : List Node)
+        → Refutes job e [] nodes → IsTree job (λ path node. (IsSoundNode job e path node × IsClosed node) × IsPath job path) [] nodes }
 {}
