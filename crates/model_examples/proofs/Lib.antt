@@ -1,2 +1,6 @@
 pub mod Apart
+pub mod Between
 pub mod CubeLaws
+pub mod SideLaws
+pub mod TreeLaws
+pub mod WalkLaws

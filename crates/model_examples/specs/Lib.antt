@@ -1,4 +1,6 @@
+pub mod Certificates
 pub mod Cubes
 pub mod Deciding
 pub mod Jobs
 pub mod Rows
+pub mod Solving
