@@ -15,14 +15,14 @@ fn next(state: u32) -> u32 {
     state.wrapping_mul(1_664_525).wrapping_add(1_013_904_223)
 }
 
-// One of 101 x 101 x 101 points of a lattice, so that edges are shared.
+// One of 11 x 11 x 11 points, so that many facets share edges.
 fn point(state: u32) -> Point3
     ensures { IsNear result }
 {
     Point3 {
-        x: i64::from((state >> 8) % 101) * 1_000,
-        y: i64::from((state >> 16) % 101) * 1_000,
-        z: i64::from((state >> 24) % 101) * 1_000,
+        x: i64::from((state >> 8) % 11) * 10_000,
+        y: i64::from((state >> 16) % 11) * 10_000,
+        z: i64::from((state >> 24) % 11) * 10_000,
     }
 }
 

@@ -4,8 +4,8 @@ use Rattle.std.specs.List.{list_any}
 use Rattle.std.proofs.lemmas.Bool.{or_cases, or_left, or_right, cond_both}
 use Rattle.std.proofs.lemmas.List.Sums.{sum_by-cons}
 use Rattle.integer_laws.specs.Members.{In}
-use Rattle.mesh_checks.specs.Edges.{Edge, same_edge, times, excess, each_once, open_in}
-use Rattle.mesh_checks.proofs.Same.{same_edge_is, edge_itself, other_edge, edge_cases}
+use Rattle.mesh_checks.specs.Edges.{Edge, turned, same_edge, times, excess, each_once, open_in}
+use Rattle.mesh_checks.proofs.Same.{edges_same, same_edge_is, edge_itself, other_edge, edge_cases}
 use Rattle.mesh_checks.proofs.Sums.{Once, one_sum, sum_alike}
 
 pub times_same : (e : Edge) (es : List Edge) → times (e ∷ es) e ≡ 1 + times es e
@@ -69,6 +69,9 @@ once_each (e ∷ es) =
 -- ---- the sum
 pub has_excess : (es : List Edge) (e : Edge) → 0 < excess es e → In e (each_once es)
 has_excess es e h = in_each_once e es (in_from_times e es (omega arith))
+
+pub two_ends : (es : List Edge) (e : Edge) → 0 < excess es e → e.from ≡ e.to → ⊥
+two_ends es e h q = let same = ap (times es) (edges_same e (turned e) q (sym q)) in omega arith
 
 pub open_over : (es pairs : List Edge) → Once pairs → ((e : Edge) → 0 < excess es e → In e pairs) → sum_by (excess es) pairs ≡ open_in es
 open_over es pairs once has = one_sum (excess es) pairs (each_once es) once (once_each es) has (has_excess es)

@@ -1,6 +1,6 @@
 -- Edges of facets, and how many of them are open.
 --
---   edge p q              the way from the point p to the point q
+--   edge p q              the edge from the point p to the point q
 --   edges facets          the three edges of each facet: from a to b, from b to c, from c to a
 --   turned e              the edge e the other way
 --   times es e            how often the edge e stands in es
@@ -9,7 +9,7 @@
 --   each_once es          the different edges of es
 --   open_in es            the excess, summed over the different edges of es
 --   open_edges facets     the same for the edges of the facets
---   SumIsOpen facets      it is the sum over all pairs of points, in any list that has each pair once
+--   IsSumOverPairs facets it is the sum over all ordered pairs of different points, whatever list they stand in
 use Rattle.std.specs.Prelude.{◌≡◌, ◌≢◌, ◌<◌, ◌-◌, ℕ, Bool, ◌&&◌, List, [], ◌∷◌, if◌then◌else◌, AllPairs, Contains, count_by, sum_by}
 use Rattle.std.specs.List.{flat_map, list_any}
 use Rattle.std.specs.Ordering.{int_eq}
@@ -42,7 +42,7 @@ same_edge d e = same_point d.from e.from && same_point d.to e.to
 abbrev pub times : List Edge → Edge → ℕ
 times es e = count_by (same_edge e) es
 
--- how often an edge stands there more often than its reverse; for an edge from a point to itself this is 0
+-- how often an edge stands more often than its reverse, which for an edge from a point to itself is 0 times
 abbrev pub excess : List Edge → Edge → ℕ
 excess es e = times es e - times es (turned e)
 
@@ -61,7 +61,10 @@ open_in es = sum_by (excess es) (each_once es)
 abbrev pub open_edges : List Facet → ℕ
 open_edges facets = open_in (edges facets)
 
--- the sum over all ordered pairs of points: those that no list has may have no excess
-abbrev pub SumIsOpen : List Facet → Type 0
-SumIsOpen facets =
-    (pairs : List Edge) → IsOnce pairs → ((e : Edge) → 0 < excess (edges facets) e → Contains pairs e) → sum_by (excess (edges facets)) pairs ≡ open_edges facets
+-- the sum over ordered pairs of different points: any list of pairs will do that has none twice and misses none with an excess
+abbrev pub IsSumOverPairs : List Facet → Type 0
+IsSumOverPairs facets =
+    (pairs : List Edge)
+    → IsOnce pairs
+    → ((e : Edge) → e.from ≢ e.to → 0 < excess (edges facets) e → Contains pairs e)
+    → sum_by (excess (edges facets)) pairs ≡ open_edges facets

@@ -9,7 +9,7 @@
 
 ghost use Rattle.std.specs.Prelude.{◌≡◌, ◌↔◌, IfOk, IsTrue, List};
 ghost use Rattle.seq_model.specs.declared.mesh.Facet.{Facet};
-ghost use Rattle.mesh_checks.specs.Edges.{open_edges, SumIsOpen};
+ghost use Rattle.mesh_checks.specs.Edges.{open_edges, IsSumOverPairs};
 ghost use Rattle.mesh_checks.specs.Volumes.{six_volume};
 ghost use Rattle.mesh_checks.specs.Verdicts.{IsClosedOutward, IsDue};
 
@@ -60,9 +60,10 @@ pub fn look(alloc: Global, mesh: &Mesh) -> Result<Notes, NoMemory>
     })
 }
 
-/// Open edges don't depend on which pairs of points the sum goes over, as long as each stands once and none with an excess is missing.
-pub fn open_edges_are_a_sum_over_all_pairs()
-    ensures { (facets : List Facet) → SumIsOpen facets }
+/// The number of open edges doesn't depend on the list of pairs that is summed over, where no pair of different points with an
+/// excess is missing and none stands twice.
+pub fn open_edges_are_a_sum_over_pairs()
+    ensures { (facets : List Facet) → IsSumOverPairs facets }
 {}
 
 #[cfg(test)]

@@ -1,27 +1,30 @@
 -- The object of a mesh, from its zones and its extremes.
-use Rattle.std.proofs.Common.{◌≡◌, ◌≢◌, ℕ, suc, zero, ◌+◌, ◌<◌, ◌≤◌, ℤ, pos, neg_ℤ, ◌-ℤ◌, ◌+ℤ◌, ◌*ℤ◌, ◌≤ℤ◌, ◌<ℤ◌, List, [], ◌∷◌, length, All, Contains, refl, sym, subst, ap, ◌∙◌, arith, ◌⊎◌, inl, inr}
+use Rattle.std.proofs.Common.{◌≡◌, ◌≢◌, ℕ, suc, ◌<◌, ◌≤◌, ℤ, pos, neg_ℤ, ◌+ℤ◌, ◌*ℤ◌, ◌≤ℤ◌, ◌<ℤ◌, List, [], ◌∷◌, length, map, All, Contains, refl, sym, subst, ◌∙◌, arith, inl, inr}
 use Rattle.std.proofs.lemmas.Int.{ints}
 use Rattle.std.specs.List.{AllPairs}
-use Rattle.integer_laws.specs.Members.{In, In-from_contains, Contains-from_in, All-in, All-from_in}
+use Rattle.integer_laws.specs.Members.{In, In-from_contains, Contains-from_in, All-in, All-from_in, In-map, In-map_cases}
 use Rattle.seq_model.specs.declared.job.Object.{Object}
 use Rattle.seq_model.specs.declared.job.Zone.{Zone}
 use Rattle.seq_model.specs.declared.mesh.Facet.{Facet}
 use Rattle.seq_model.specs.declared.printer.Part.{Part}
 use Rattle.seq_model.specs.declared.printer.Printer.{Printer}
 use Rattle.seq_model.specs.declared.printer.Spot.{Spot}
-use Rattle.seq_model.specs.Bands.{facet_corners, corners, least_z, height_of, band_count}
-use Rattle.seq_model.specs.Bounds.{IsNearFacet}
-use Rattle.seq_model.specs.Outlines.{spots, Within}
+use Rattle.seq_model.specs.Bands.{corners, least_z, height_of, band_count}
+use Rattle.seq_model.specs.Bounds.{IsNearFacet, IsNearSpot}
+use Rattle.seq_model.specs.Outlines.{Within}
 use Rattle.seq_model.specs.Scenes.{Between, SomeSpot, Spans, scene_of_files, description_of}
-use Rattle.seq_model.specs.Soundness.{IsSoundZone, AreSoundZones, AllCorners, AreExtremes, IsSound, IsNearSpot}
+use Rattle.seq_model.specs.Soundness.{IsSoundZone, AreSoundZones, AreExtremes, corners_of}
+use Rattle.seq_model.specs.Extremes.{least, greatest}
 use Rattle.convex_outline.specs.Corners.{at_spot}
 use Rattle.convex_outline.specs.Means.{within_at_most}
 use Rattle.mesh_slices.specs.Objects.{spots_in, IsOutlineOf, HoldsBand, LiesInOneZone, AreZonesOf, IsObjectOf}
 use Rattle.mesh_slices.specs.Runs.{IsRunOf, Holds, AreRunsOf}
-use Rattle.mesh_slices.proofs.Grown.{no_spots, no_corners}
+use Rattle.mesh_slices.proofs.Grown.{no_corners}
 use Rattle.mesh_slices.proofs.Nearness.{spots_near, points_positive}
 use Rattle.mesh_slices.proofs.Outlines.{near_members}
-use Rattle.mesh_slices.proofs.Polygons.{outline_polygon}
+use Rattle.mesh_slices.proofs.Polygons.{outline_has_area}
+use Rattle.mesh_slices.proofs.Members.{to_flat, all_flat}
+use Rattle.mesh_slices.proofs.Running.{least_below, greatest_above, least_reached, greatest_reached}
 
 -- ---- exactly one zone
 first_pairs : (R : Zone → Zone → Type 0) (x : Zone) (xs : List Zone) → AllPairs R (x ∷ xs) → All (R x) xs
@@ -73,8 +76,9 @@ sound_zone printer facets n z near r =
     let margin : pos 0 ≤ℤ printer.margin = omega (arith, ints, p.margin_low) in
     let grain : pos 0 <ℤ printer.grain = omega (arith, ints, p.grain_low) in
     record {
-      polygon = outline_polygon printer.grain printer.margin (corners facets printer.step z.first) z.corners grain p.margin_low (points_positive low (low +ℤ printer.step) facets near) (λ e. r.some (no_corners z.corners (subst (λ l. IsOutlineOf l z.corners) e o))) o;
-      near = near_members IsNearSpot S z.corners (spots_near printer.grain printer.margin low (low +ℤ printer.step) facets p.grain_low margin p.margin_high near) o.members;
+      corners = o.corners;
+      area = outline_has_area printer.grain printer.margin (corners facets printer.step z.first) z.corners grain p.margin_low (points_positive low (low +ℤ printer.step) facets near) (λ e. r.some (no_corners z.corners (subst (λ l. IsOutlineOf l z.corners) e o))) o;
+      near = near_members (IsNearSpot 1_001_000) S z.corners (spots_near printer.grain printer.margin low (low +ℤ printer.step) facets p.grain_low margin p.margin_high near) o.members;
       rises = r.rises;
     }
 
@@ -86,6 +90,24 @@ filled : (S : List Spot) (s : Spot) → Contains S s → S ≢ []
 filled S s c e = In-from_contains [] s (subst (λ l. Contains l s) e c)
 
 -- ---- extremes
+some_of : (ns : List ℤ) (m : ℤ) → In m ns → 0 < length ns
+some_of [] m i = absurd i
+some_of (n ∷ ns) m i = omega arith
+
+is_least : (ns : List ℤ) (n m : ℤ) → In m ns → ((k : ℤ) → In k ns → n ≤ℤ k) → least ns ≤ℤ n → n ≡ least ns
+is_least ns n m i below h = let g = below (least ns) (least_reached ns (some_of ns m i)) in omega (arith, ints)
+
+is_greatest : (ns : List ℤ) (n m : ℤ) → In m ns → ((k : ℤ) → In k ns → k ≤ℤ n) → n ≤ℤ greatest ns → n ≡ greatest ns
+is_greatest ns n m i above h = let g = above (greatest ns) (greatest_reached ns (some_of ns m i)) in omega (arith, ints)
+
+-- the first of some corners
+some_corner : (C : List Spot) → C ≢ [] → (c : Spot) × In c C
+some_corner [] some = absurd (some refl)
+some_corner (c ∷ C) some = (c, inl refl)
+
+abbrev AllCorners : (Spot → Type 0) → List Zone → Type 0
+AllCorners P zones = All (λ (z : Zone). All P z.corners) zones
+
 low_x : (n : ℤ) (C : List Spot) (s : Spot) → ((c : Spot) → In c C → n ≤ℤ c.x) → Within C (at_spot s) → n ≤ℤ s.x
 low_x n C s f w = let m = within_at_most (neg_ℤ (pos 1)) (pos 0) (neg_ℤ n) C (at_spot s) (λ c i. let h = f c i in omega (arith, ints)) w in omega (arith, ints)
 
@@ -140,24 +162,42 @@ module _ (printer : Printer) (facets : List Facet) (n : ℕ) (zones : List Zone)
         so = w.so;
       }
 
-  of_all : (P Q : Spot → Type 0) (w : Seen P) → AllCorners Q zones → (c : Spot) → In c w.zone.corners → Q c
-  of_all P Q w all c i = All-in Q w.zone.corners c (All-in (λ z. All Q z.corners) zones w.zone all w.member) i
+  -- a corner's coordinate is one of those of all corners
+  in_corners : (coordinate : Spot → ℤ) (z : Zone) → In z zones → (c : Spot) → In c z.corners → In (coordinate c) (map coordinate (corners_of zones))
+  in_corners coordinate z i c j = In-map coordinate (corners_of zones) c (In-from_contains (corners_of zones) c (to_flat (λ y. y.corners) c z zones i (Contains-from_in z.corners c j)))
+
+  -- what holds of all corners between the extremes holds of all coordinates
+  each_one : (coordinate : Spot → ℤ) (Q : ℤ → Type 0) → ((s : Spot) → Between low high s → Q (coordinate s)) → (k : ℤ) → In k (map coordinate (corners_of zones)) → Q k
+  each_one coordinate Q f k i =
+      let m = In-map_cases coordinate (corners_of zones) k i in
+      subst Q (sym m.2) (All-in (λ s. Q (coordinate s)) (corners_of zones) m.0 (all_flat (λ z. All (λ s. Q (coordinate s)) z.corners) (λ s. Q (coordinate s)) (λ z. z.corners) (λ z a. a) zones (corners_between (λ s. Q (coordinate s)) f)) m.1)
+
+  some_coordinate : (P : Spot → Type 0) (coordinate : Spot → ℤ) → Seen P → (m : ℤ) × In m (map coordinate (corners_of zones))
+  some_coordinate P coordinate w =
+      let c = some_corner w.zone.corners (All-in (IsRunOf S n) zones w.zone runs.each w.member).some in
+      (coordinate c.0, in_corners coordinate w.zone w.member c.0 c.1)
 
   extremes_are : AreExtremes low high zones
   extremes_are =
+      let xs = map (λ s. s.x) (corners_of zones) in
+      let ys = map (λ s. s.y) (corners_of zones) in
       let west = seen (λ s. s.x ≡ low.x) spans.west in
       let east = seen (λ s. s.x ≡ high.x) spans.east in
       let south = seen (λ s. s.y ≡ low.y) spans.south in
       let north = seen (λ s. s.y ≡ high.y) spans.north in
+      let w = some_coordinate (λ s. s.x ≡ low.x) (λ s. s.x) west in
+      let e = some_coordinate (λ s. s.x ≡ high.x) (λ s. s.x) east in
+      let u = some_coordinate (λ s. s.y ≡ low.y) (λ s. s.y) south in
+      let v = some_coordinate (λ s. s.y ≡ high.y) (λ s. s.y) north in
       record {
-        west = corners_between (λ s. low.x ≤ℤ s.x) (λ s b. b.west);
-        east = corners_between (λ s. s.x ≤ℤ high.x) (λ s b. b.east);
-        south = corners_between (λ s. low.y ≤ℤ s.y) (λ s b. b.south);
-        north = corners_between (λ s. s.y ≤ℤ high.y) (λ s b. b.north);
-        west_least = λ k all. subst (λ x. k ≤ℤ x) west.so (low_x k west.zone.corners west.spot (of_all (λ s. s.x ≡ low.x) (λ s. k ≤ℤ s.x) west all) west.within);
-        east_greatest = λ k all. subst (λ x. x ≤ℤ k) east.so (high_x k east.zone.corners east.spot (of_all (λ s. s.x ≡ high.x) (λ s. s.x ≤ℤ k) east all) east.within);
-        south_least = λ k all. subst (λ y. k ≤ℤ y) south.so (low_y k south.zone.corners south.spot (of_all (λ s. s.y ≡ low.y) (λ s. k ≤ℤ s.y) south all) south.within);
-        north_greatest = λ k all. subst (λ y. y ≤ℤ k) north.so (high_y k north.zone.corners north.spot (of_all (λ s. s.y ≡ high.y) (λ s. s.y ≤ℤ k) north all) north.within);
+        west = is_least xs low.x w.0 w.1 (each_one (λ s. s.x) (λ k. low.x ≤ℤ k) (λ s b. b.west))
+            (subst (λ x. least xs ≤ℤ x) west.so (low_x (least xs) west.zone.corners west.spot (λ c i. All-in (λ k. least xs ≤ℤ k) xs c.x (least_below xs) (in_corners (λ s. s.x) west.zone west.member c i)) west.within));
+        east = is_greatest xs high.x e.0 e.1 (each_one (λ s. s.x) (λ k. k ≤ℤ high.x) (λ s b. b.east))
+            (subst (λ x. x ≤ℤ greatest xs) east.so (high_x (greatest xs) east.zone.corners east.spot (λ c i. All-in (λ k. k ≤ℤ greatest xs) xs c.x (greatest_above xs) (in_corners (λ s. s.x) east.zone east.member c i)) east.within));
+        south = is_least ys low.y u.0 u.1 (each_one (λ s. s.y) (λ k. low.y ≤ℤ k) (λ s b. b.south))
+            (subst (λ y. least ys ≤ℤ y) south.so (low_y (least ys) south.zone.corners south.spot (λ c i. All-in (λ k. least ys ≤ℤ k) ys c.y (least_below ys) (in_corners (λ s. s.y) south.zone south.member c i)) south.within));
+        north = is_greatest ys high.y v.0 v.1 (each_one (λ s. s.y) (λ k. k ≤ℤ high.y) (λ s b. b.north))
+            (subst (λ y. y ≤ℤ greatest ys) north.so (high_y (greatest ys) north.zone.corners north.spot (λ c i. All-in (λ k. k ≤ℤ greatest ys) ys c.y (greatest_above ys) (in_corners (λ s. s.y) north.zone north.member c i)) north.within));
       }
 
   sound_zones : All IsNearFacet facets → AreSoundZones n zones

@@ -1,16 +1,15 @@
 -- The spots of near facets are near.
-use Rattle.std.proofs.Common.{◌≡◌, ◌≤◌, ℤ, pos, neg_ℤ, ◌+ℤ◌, ◌-ℤ◌, ◌*ℤ◌, ◌≤ℤ◌, ◌<ℤ◌, List, All, Contains, arith, unsigned_abs, flat_map}
+use Rattle.std.proofs.Common.{ℤ, pos, neg_ℤ, ◌*ℤ◌, ◌≤ℤ◌, ◌<ℤ◌, List, All, arith, flat_map}
 use Rattle.std.proofs.lemmas.Int.{ints}
-use Rattle.integer_laws.specs.Members.{In, In-from_contains, All-in, All-from_in}
-use Rattle.integer_laws.specs.Quotients.{floor, ceil, floor_is, least_quotient}
+use Rattle.integer_laws.specs.Members.{All-in, All-from_in}
+use Rattle.integer_laws.specs.Quotients.{floor, floor_is, least_quotient}
 use Rattle.seq_model.specs.declared.mesh.Point3.{Point3}
 use Rattle.seq_model.specs.declared.mesh.Facet.{Facet}
 use Rattle.seq_model.specs.declared.printer.Spot.{Spot}
 use Rattle.seq_model.specs.Bands.{facet_corners}
-use Rattle.seq_model.specs.Bounds.{IsNear, IsNearFacet}
+use Rattle.seq_model.specs.Bounds.{IsNear, IsNearFacet, IsNearSpot}
 use Rattle.seq_model.specs.Outlines.{four_spots, spots}
 use Rattle.seq_model.specs.Scenes.{Between}
-use Rattle.seq_model.specs.Soundness.{IsNearSpot}
 use Rattle.convex_outline.specs.Corners as Corners
 use Rattle.mesh_slices.proofs.Members.{all_flat}
 use Rattle.mesh_slices.proofs.Holding.{Around, AroundFacet, AroundPoint, spot_below, spot_above, of_facet, of_four}
@@ -36,7 +35,7 @@ floor_far grain g =
     let high = f.high in
     least_quotient grain (neg_ℤ (pos 1_000_000)) (floor (neg_ℤ (pos 10_000_000)) grain) p (omega (arith, ints))
 
-near_between : (grain margin : ℤ) (s : Spot) → pos 10 ≤ℤ grain → margin ≤ℤ pos 1_000 → Between (spot_below grain margin far_low) (spot_above grain margin far_high) s → IsNearSpot s
+near_between : (grain margin : ℤ) (s : Spot) → pos 10 ≤ℤ grain → margin ≤ℤ pos 1_000 → Between (spot_below grain margin far_low) (spot_above grain margin far_high) s → IsNearSpot 1_001_000 s
 near_between grain margin s g m b =
     let f = floor_far grain g in
     let west = b.west in
@@ -46,21 +45,21 @@ near_between grain margin s g m b =
     record { x = omega (arith, ints); y = omega (arith, ints) }
 
 pub spots_near : (grain margin from to : ℤ) (facets : List Facet) → pos 10 ≤ℤ grain → pos 0 ≤ℤ margin → margin ≤ℤ pos 1_000 → All IsNearFacet facets
-    → All IsNearSpot (spots grain margin (flat_map (facet_corners from to) facets))
+    → All (IsNearSpot 1_001_000) (spots grain margin (flat_map (facet_corners from to) facets))
 spots_near grain margin from to facets g m n near =
     let low = spot_below grain margin far_low in
     let high = spot_above grain margin far_high in
     let all = all_flat (AroundPoint far_low far_high) (Between low high) (four_spots grain margin) (λ p a. of_four grain margin far_low far_high p (omega (arith, ints)) m a) (flat_map (facet_corners from to) facets)
     (all_flat IsNearFacet (AroundPoint far_low far_high) (facet_corners from to) (λ f k. of_facet far_low far_high from to f (around_facet f k)) facets near) in
-    All-from_in IsNearSpot (spots grain margin (flat_map (facet_corners from to) facets)) (λ s i. near_between grain margin s g n (All-in (Between low high) (spots grain margin (flat_map (facet_corners from to) facets)) s all i))
+    All-from_in (IsNearSpot 1_001_000) (spots grain margin (flat_map (facet_corners from to) facets)) (λ s i. near_between grain margin s g n (All-in (Between low high) (spots grain margin (flat_map (facet_corners from to) facets)) s all i))
 
 pub facet_near : (grain margin from to : ℤ) (f : Facet) → pos 10 ≤ℤ grain → pos 0 ≤ℤ margin → margin ≤ℤ pos 1_000 → IsNearFacet f
-    → All IsNearSpot (spots grain margin (facet_corners from to f))
+    → All (IsNearSpot 1_001_000) (spots grain margin (facet_corners from to f))
 facet_near grain margin from to f g m n near =
     let low = spot_below grain margin far_low in
     let high = spot_above grain margin far_high in
     let all = all_flat (AroundPoint far_low far_high) (Between low high) (four_spots grain margin) (λ p a. of_four grain margin far_low far_high p (omega (arith, ints)) m a) (facet_corners from to f) (of_facet far_low far_high from to f (around_facet f near)) in
-    All-from_in IsNearSpot (spots grain margin (facet_corners from to f)) (λ s i. near_between grain margin s g n (All-in (Between low high) (spots grain margin (facet_corners from to f)) s all i))
+    All-from_in (IsNearSpot 1_001_000) (spots grain margin (facet_corners from to f)) (λ s i. near_between grain margin s g n (All-in (Between low high) (spots grain margin (facet_corners from to f)) s all i))
 
 pub points_positive : (from to : ℤ) (facets : List Facet) → All IsNearFacet facets → All (λ p. pos 0 <ℤ p.d) (flat_map (facet_corners from to) facets)
 points_positive from to facets near =
@@ -68,8 +67,8 @@ points_positive from to facets near =
     let all = all_flat IsNearFacet (AroundPoint far_low far_high) (facet_corners from to) (λ f k. of_facet far_low far_high from to f (around_facet f k)) facets near in
     All-from_in (λ p. pos 0 <ℤ p.d) points (λ p i. (All-in (AroundPoint far_low far_high) points p all i).over)
 
-pub near_enough : (S : List Spot) → All IsNearSpot S → All Corners.IsNear S
-near_enough S all = All-from_in Corners.IsNear S (λ s i. near s (All-in IsNearSpot S s all i))
+pub near_enough : (S : List Spot) → All (IsNearSpot 1_001_000) S → All Corners.IsNear S
+near_enough S all = All-from_in Corners.IsNear S (λ s i. near s (All-in (IsNearSpot 1_001_000) S s all i))
   where
-    near : (s : Spot) → IsNearSpot s → Corners.IsNear s
+    near : (s : Spot) → IsNearSpot 1_001_000 s → Corners.IsNear s
     near s n = let x = n.x in let y = n.y in (omega (arith, ints), omega (arith, ints))

@@ -5,15 +5,13 @@ use Rattle.std.proofs.lemmas.Int.{ints}
 use Rattle.std.proofs.lemmas.List.Elements.{All-nil, All-append}
 use Rattle.seq_model.specs.Bounds.{IsPrinter, IsNearFacet}
 use Rattle.mesh_slices.proofs.Nearness.{near_enough, facet_near}
-use Rattle.integer_laws.specs.Members.{In, In-from_contains, Contains-from_in, All-in, All-from_in}
+use Rattle.integer_laws.specs.Members.{In-from_contains, Contains-from_in, All-in, All-from_in}
 use Rattle.seq_model.specs.declared.printer.Spot.{Spot}
 use Rattle.seq_model.specs.Points.{Point}
 use Rattle.seq_model.specs.declared.mesh.Facet.{Facet}
 use Rattle.seq_model.specs.Bands.{facet_corners}
-use Rattle.seq_model.specs.Outlines.{below, above, four_spots, spots, Inner, Within}
+use Rattle.seq_model.specs.Outlines.{below, above, four_spots, spots, Within}
 use Rattle.convex_outline.specs.Corners.{AreCorners, at_spot, IsNear}
-use Rattle.mesh_slices.specs.declared.corner.CornerPoint.{CornerPoint}
-use Rattle.mesh_slices.specs.CornerPoints.{as_point, points_of}
 use Rattle.mesh_slices.specs.Folding.{StandsFor, stands_itself, stands_trans, stands_joined, inner_stands, inner_back}
 use Rattle.mesh_slices.specs.Objects.{IsOutlineOf}
 

@@ -1,13 +1,11 @@
 -- Corner points, one by one.
-use Rattle.std.proofs.Common.{◌≡◌, ◌≤◌, Bool, true, false, ◌*◌, ◌&&◌, ℤ, pos, ◌+ℤ◌, ◌-ℤ◌, ◌*ℤ◌, ◌≤ℤ◌, ◌<ℤ◌, List, [], ◌∷◌, ◌++◌, map, refl, ap, sym, subst, ◌∙◌, arith, unsigned_abs, mul-le-mul, append_assoc, ◌⊎◌, inl, inr}
-use Rattle.std.proofs.Math.Bool.{and-false}
+use Rattle.std.proofs.Common.{◌≡◌, ◌≤◌, Bool, true, false, ℤ, pos, ◌+ℤ◌, ◌-ℤ◌, ◌*ℤ◌, ◌≤ℤ◌, ◌<ℤ◌, List, [], ◌∷◌, ◌++◌, refl, ap, sym, ◌∙◌, arith, unsigned_abs, mul-le-mul, append_assoc}
 use Rattle.std.proofs.Math.Dec.{T}
 use Rattle.std.proofs.lemmas.Int.{ints, unsigned_abs-mul}
-use Rattle.std.specs.Int.Signed.{lt_z, le_z, lt_z_yes, le_z_yes}
+use Rattle.std.specs.Int.Signed.{lt_z}
 use Rattle.integer_laws.specs.Order.{one_le, mul_positive}
 use Rattle.seq_model.specs.declared.mesh.Point3.{Point3}
-use Rattle.seq_model.specs.declared.mesh.Facet.{Facet}
-use Rattle.seq_model.specs.Bands.{vertex_in, crossing_up, crossing, crossings, facet_corners}
+use Rattle.seq_model.specs.Bands.{crossing_up}
 use Rattle.seq_model.specs.Points.{Point}
 use Rattle.mesh_slices.specs.declared.corner.CornerPoint.{CornerPoint}
 use Rattle.mesh_slices.specs.CornerPoints.{as_point, points_of}

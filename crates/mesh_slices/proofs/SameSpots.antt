@@ -1,5 +1,5 @@
 -- The derived equality of spots, and of lists of them.
-use Rattle.std.proofs.Common.{◌≡◌, Bool, true, false, List, refl, ap, ap₂, sym, subst, ◌∙◌, arith, ℤ}
+use Rattle.std.proofs.Common.{◌≡◌, Bool, true, List, ap₂, subst, arith, ℤ}
 use Rattle.std.specs.Bool.{Decides}
 use Rattle.std.specs.Ordering.{int_eq, on, eq_of_both}
 use Rattle.std.specs.Cmp.Lexicographic.{pointwise}

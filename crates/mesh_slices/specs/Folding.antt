@@ -6,7 +6,7 @@
 --   means_move                    what is a mean of some spots is one of those that they are within
 --   within_trans                  what is within spots that are within others is within those
 --   inner_stands                  the inner points are the same
-use Rattle.std.proofs.Common.{◌≡◌, List, [], ◌∷◌, ◌++◌, refl, ◌∙◌, arith, ℤ, pos, ◌+ℤ◌, ◌*ℤ◌, ◌≤ℤ◌, ◌<ℤ◌, ◌⊎◌, inl, inr}
+use Rattle.std.proofs.Common.{◌≡◌, List, [], ◌∷◌, ◌++◌, refl, arith, ℤ, pos, ◌+ℤ◌, ◌*ℤ◌, ◌≤ℤ◌, ◌⊎◌, inl, inr}
 use Rattle.std.proofs.lemmas.Int.{ints}
 use Rattle.integer_laws.specs.Members.{In, In-append_left, In-append_right, In-append_cases}
 use Rattle.integer_laws.specs.Order.{one_le, lt_from, same_from, add_same, mul_same, mul_positive, mul_le}

@@ -19,7 +19,7 @@ use Rattle.seq_model.specs.Bands.{corners, height_of, band_count}
 use Rattle.seq_model.specs.Outlines.{spots, Inner, Within}
 use Rattle.seq_model.specs.Points.{Point}
 use Rattle.seq_model.specs.Scenes.{Spans, scene_of_files, description_of}
-use Rattle.seq_model.specs.Soundness.{IsSound}
+use Rattle.seq_model.specs.Soundness.{IsSoundObject}
 use Rattle.convex_outline.specs.Corners.{AreCorners, at_spot}
 use Rattle.mesh_slices.specs.declared.slice.Slice.{Slice}
 use Rattle.mesh_slices.specs.declared.slice.Slice.TheVariants.{Flat, TooTall, NoMemory}
@@ -63,7 +63,7 @@ pub record IsObjectOf (name : List ℕ) (facets : List Facet) (printer : Printer
   pub bands : o.bands ≡ band_count facets printer.step
   pub zones : AreZonesOf (spots_in printer facets) o.bands o.zones
   pub spans : (listed : List Part) → Spans (scene_of_files (description_of printer listed) (facets ∷ [])) 0 o.low o.high
-  pub sound : IsSound o
+  pub sound : IsSoundObject o
 
 -- the mesh has a facet, and at most 200 bands
 pub record CanBeSliced (facets : List Facet) (step : ℤ) : Type 0 where

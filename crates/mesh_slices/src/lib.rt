@@ -12,6 +12,7 @@
 mod corner;
 mod extremes;
 mod grains;
+pub mod laws;
 mod measure;
 mod objects;
 mod outline;

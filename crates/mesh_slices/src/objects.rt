@@ -1,4 +1,5 @@
 ghost use Rattle.std.specs.Prelude.{◌≡◌, ◌≤◌, ◌↔◌, [], IsTrue, IfOk, IfErr};
+ghost use Rattle.mesh_slices.specs.Cover.{ZonesCover};
 ghost use Rattle.mesh_slices.specs.Objects.{IsObjectOf, CanBeSliced, IsRefusedAs};
 
 use crate::Slice;
@@ -25,6 +26,7 @@ fn are_none(facets: &[Facet]) -> bool
 /// The object of a mesh: its height in µm, its bands, and their zones with corners in grains.
 pub fn object(alloc: Global, name: &str, mesh: &Mesh, printer: &Printer) -> Result<Object, Slice>
     ensures object { IfOk result (IsObjectOf name.now mesh.now.facets printer.now) }
+    ensures covers { IfOk result (ZonesCover printer.now mesh.now.facets) }
     ensures sliced { IfOk result (λ _. CanBeSliced mesh.now.facets printer.now.step) }
     ensures refused { IfErr result (IsRefusedAs mesh.now.facets printer.now.step) }
 {

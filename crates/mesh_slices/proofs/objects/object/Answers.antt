@@ -4,6 +4,8 @@ use Rattle.seq_model.specs.Bands.{height_of, band_count}
 use Rattle.seq_model.specs.Scenes.{Spans, scene_of_files, description_of}
 use Rattle.mesh_slices.specs.Objects.{spots_in}
 use Rattle.mesh_slices.specs.Runs.{AreRunsOf}
+use Rattle.mesh_slices.specs.AgreeingJobs.{zones_of}
+use Rattle.mesh_slices.specs.CoveringMeshes.{zones_cover}
 use Rattle.mesh_slices.proofs.Assembled.{object_is}
 use Rattle.mesh_slices.proofs.objects.object.Goals as goal
 
@@ -24,3 +26,6 @@ returns-clause-object c =
     few
     (subst (AreRunsOf (spots_in p c.args.mesh.now.facets) n) (sym c.from_vec.ensures) (subst (λ fs. AreRunsOf (spots_in p fs) n c.in_ok-zones.zones.items) v c.in_ok-zones.ensures))
     (λ listed. subst (λ fs. Spans (scene_of_files (description_of p listed) (fs ∷ [])) 0 m.low m.high) v (e.spans listed))
+
+pub returns-clause-covers : goal.returns-clause-covers
+returns-clause-covers c = zones_cover c.args.printer.now c.args.mesh.now.facets _ (zones_of c.args.name.now _ _ _ (returns-clause-object c))
