@@ -1,6 +1,5 @@
 -- One object alone on the plate.
 --
---   xs, ys facets          the x and the y coordinates of all vertices
 --   FitsPlate w h low high the rectangle from low to high is at most w wide and h deep
 --   zero_place low         the place that moves the corner low to the plate's low corner
 --   lone_plan place        the plan of this one place, at scale 1
@@ -8,22 +7,13 @@
 --                          1 where it is more than h in y alone
 --   span_tree r            the tree of one node: row r, taken once, contradicts itself
 --   IsFirstNegative rows r the first of the rows whose constant is negative is r
-use Rattle.std.specs.Prelude.{ℕ, ℤ, pos, zero, suc, ◌<◌, ◌-ℤ◌, neg_ℤ, ◌≤ℤ◌, ◌<ℤ◌, List, [], ◌∷◌, length, map}
-use Rattle.seq_model.specs.declared.mesh.Facet.{Facet}
-use Rattle.seq_model.specs.declared.mesh.Point3.{Point3}
+use Rattle.std.specs.Prelude.{ℕ, ℤ, pos, zero, suc, ◌<◌, ◌-ℤ◌, neg_ℤ, ◌≤ℤ◌, ◌<ℤ◌, List, [], ◌∷◌, length}
 use Rattle.seq_model.specs.declared.plan.Place.{Place}
 use Rattle.seq_model.specs.declared.plan.Plan.{Plan}
 use Rattle.seq_model.specs.declared.printer.Spot.{Spot}
 use Rattle.seq_model.specs.declared.tree.Node.{Node}
 use Rattle.seq_model.specs.declared.tree.Node.TheVariants as Nodes
-use Rattle.seq_model.specs.Bands.{vertices}
 use Rattle.seq_model.specs.Systems.{Row, row_at}
-
-abbrev pub xs : List Facet → List ℤ
-xs facets = map (λ (p : Point3). p.x) (vertices facets)
-
-abbrev pub ys : List Facet → List ℤ
-ys facets = map (λ (p : Point3). p.y) (vertices facets)
 
 -- the span from low to high is at most the plate's size, in x and in y
 pub record FitsPlate (width depth : ℤ) (low high : Spot) : Type 0 where

@@ -2,25 +2,26 @@
 --
 --   IsSomePrinter files name          the file of that name states some description
 --   IsRefusedPrinter files name c     it is refused for this cause
---   IsUnsliced facets step c          the mesh can't be sliced for this cause
 --   IsNotClosed strict facets e v     a strict run, and the mesh has e open edges and v for six times its volume
+--   IsUnfitFor task facets step c     the mesh can't be used for this cause
 --   IsRefusedMesh files a d c         the mesh is refused for this cause, by a printer of this description
 --   Refuses files a file c            the first file in word order that can't be used is this one, for this cause
 --   Reaches files a file              those before this one can be used
 --   Explains files a stop             what a stop says of the files
-use Rattle.std.specs.Prelude.{◌≡◌, ◌≢◌, ℕ, ℤ, Bool, true, ◌<◌, ◌≤◌, List, [], length, Option}
+use Rattle.std.specs.Prelude.{◌≡◌, ℕ, ℤ, Bool, true, ◌≤◌, List, [], length, Option}
 use Rattle.first_forms.specs.Descriptions.{IsNoPrinter}
 use Rattle.mesh_checks.specs.Edges.{open_edges}
 use Rattle.mesh_checks.specs.Verdicts.{IsClosedOutward}
 use Rattle.mesh_checks.specs.Volumes.{six_volume}
+use Rattle.mesh_slices.specs.Objects.{IsTooTall}
 use Rattle.seq_io.specs.Files.{GivesFile, LongerThan}
 use Rattle.seq_io.specs.declared.mem_file.MemFile.{MemFile}
-use Rattle.seq_model.specs.Bands.{band_count}
 use Rattle.seq_model.specs.Scenes.{Description}
 use Rattle.seq_model.specs.declared.mesh.Facet.{Facet}
 use Rattle.stl_text.specs.Meshes.{IsRefused}
 use Rattle.stl_text.specs.declared.Stl.{Stl}
 use Rattle.seq_run.specs.Files.{limit_of, IsPrinterFile, IsMeshFile, PassesStrict}
+use Rattle.seq_run.specs.Words.{is_strict}
 use Rattle.seq_run.specs.declared.stop.Cause.{Cause}
 use Rattle.seq_run.specs.declared.stop.Cause.TheVariants as Causes
 use Rattle.seq_run.specs.declared.stop.NamedFile.{NamedFile}
@@ -28,6 +29,7 @@ use Rattle.seq_run.specs.declared.stop.NamedFile.TheVariants.{Printer, Mesh}
 use Rattle.seq_run.specs.declared.stop.Stop.{Stop}
 use Rattle.seq_run.specs.declared.stop.Stop.TheVariants.{Read, Input, Memory}
 use Rattle.seq_run.specs.declared.words.Asked.{Asked}
+use Rattle.seq_run.specs.declared.words.Task.{Task}
 
 pub record IsSomePrinter (files : Option (List MemFile)) (name : List ℕ) : Type 0 where
   pub description : Description
@@ -55,21 +57,6 @@ pub record IsNoStl (files : Option (List MemFile)) (name : List ℕ) (e : Stl) :
   pub short : length bytes ≤ limit_of Mesh
   pub refused : IsRefused bytes e
 
--- more than 200 bands, and how many
-pub record IsTooTall (facets : List Facet) (step : ℤ) (bands : ℕ) : Type 0 where
-  pub some : facets ≢ []
-  pub count : bands ≡ band_count facets step
-  pub many : 200 < bands
-
--- all its facets were dropped, or it has too many bands
-abbrev pub IsUnsliced : List Facet → ℤ → Cause → Type 0
-IsUnsliced facets step Causes.TooLong = ⊥
-IsUnsliced facets step Causes.NotYet = ⊥
-IsUnsliced facets step (Causes.Stl e) = ⊥
-IsUnsliced facets step (Causes.NotClosed edges volume) = ⊥
-IsUnsliced facets step Causes.Flat = facets ≡ []
-IsUnsliced facets step (Causes.TooTall bands) = IsTooTall facets step bands
-
 -- a strict run refuses the mesh, with the two numbers that its line tells
 pub record IsNotClosed (strict : Bool) (facets : List Facet) (edges : ℕ) (volume : ℤ) : Type 0 where
   pub asked : strict ≡ true
@@ -77,33 +64,29 @@ pub record IsNotClosed (strict : Bool) (facets : List Facet) (edges : ℕ) (volu
   pub summed : volume ≡ six_volume facets
   pub refused : IsClosedOutward edges volume → ⊥
 
--- what a look at a mesh stops for: the cause above, or want of memory
-abbrev pub IsUnlooked : Bool → List Facet → Stop → Type 0
-IsUnlooked strict facets (Input Mesh (Causes.NotClosed edges volume)) = IsNotClosed strict facets edges volume
-IsUnlooked strict facets Memory = Unit {0}
-IsUnlooked strict facets stop = ⊥
+-- it is looked at before it is sliced
+abbrev pub IsUnfitFor : Task → List Facet → ℤ → Cause → Type 0
+IsUnfitFor task facets step Causes.TooLong = ⊥
+IsUnfitFor task facets step Causes.NotYet = ⊥
+IsUnfitFor task facets step (Causes.Stl e) = ⊥
+IsUnfitFor task facets step (Causes.NotClosed edges volume) = IsNotClosed (is_strict task) facets edges volume
+IsUnfitFor task facets step Causes.Flat = PassesStrict (is_strict task) facets × (facets ≡ [])
+IsUnfitFor task facets step (Causes.TooTall bands) = PassesStrict (is_strict task) facets × IsTooTall facets step bands
 
-pub record IsNotClosedFile (files : Option (List MemFile)) (a : Asked) (edges : ℕ) (volume : ℤ) : Type 0 where
+-- a mesh that can't be used
+pub record IsUnfitFile (files : Option (List MemFile)) (a : Asked) (step : ℤ) (c : Cause) : Type 0 where
   pub facets : List Facet
   pub dropped : ℕ
   pub is : IsMeshFile files a.mesh facets dropped
-  pub not_closed : IsNotClosed a.strict facets edges volume
-
--- a mesh that can't be sliced, though it isn't refused before
-pub record IsUnslicedFile (files : Option (List MemFile)) (a : Asked) (step : ℤ) (c : Cause) : Type 0 where
-  pub facets : List Facet
-  pub dropped : ℕ
-  pub is : IsMeshFile files a.mesh facets dropped
-  pub passes : PassesStrict a.strict facets
-  pub unsliced : IsUnsliced facets step c
+  pub unfit : IsUnfitFor a.task facets step c
 
 abbrev pub IsRefusedMesh : Option (List MemFile) → Asked → Description → Cause → Type 0
 IsRefusedMesh files a d Causes.TooLong = LongerThan (limit_of Mesh) files a.mesh
 IsRefusedMesh files a d Causes.NotYet = ⊥
 IsRefusedMesh files a d (Causes.Stl e) = IsNoStl files a.mesh e
-IsRefusedMesh files a d (Causes.NotClosed edges volume) = IsNotClosedFile files a edges volume
-IsRefusedMesh files a d Causes.Flat = IsUnslicedFile files a d.step Causes.Flat
-IsRefusedMesh files a d (Causes.TooTall bands) = IsUnslicedFile files a d.step (Causes.TooTall bands)
+IsRefusedMesh files a d (Causes.NotClosed edges volume) = IsUnfitFile files a d.step (Causes.NotClosed edges volume)
+IsRefusedMesh files a d Causes.Flat = IsUnfitFile files a d.step Causes.Flat
+IsRefusedMesh files a d (Causes.TooTall bands) = IsUnfitFile files a d.step (Causes.TooTall bands)
 
 -- the mesh is refused by a printer that can be used
 pub record IsRefusedBy (files : Option (List MemFile)) (a : Asked) (c : Cause) : Type 0 where
@@ -123,3 +106,20 @@ abbrev pub Explains : Option (List MemFile) → Asked → Stop → Type 0
 Explains files a (Read file) = Reaches files a file
 Explains files a (Input file c) = Refuses files a file c
 Explains files a Memory = Unit {0}
+
+-- what a look at a mesh, its slicing, and all of its work stops for: a cause, or want of memory
+abbrev pub IsUnlooked : Bool → List Facet → Stop → Type 0
+IsUnlooked strict facets (Input Mesh (Causes.NotClosed edges volume)) = IsNotClosed strict facets edges volume
+IsUnlooked strict facets Memory = Unit {0}
+IsUnlooked strict facets stop = ⊥
+
+abbrev pub IsUnsliced : List Facet → ℤ → Stop → Type 0
+IsUnsliced facets step (Input Mesh Causes.Flat) = facets ≡ []
+IsUnsliced facets step (Input Mesh (Causes.TooTall bands)) = IsTooTall facets step bands
+IsUnsliced facets step Memory = Unit {0}
+IsUnsliced facets step stop = ⊥
+
+abbrev pub IsUnfit : Task → List Facet → ℤ → Stop → Type 0
+IsUnfit task facets step (Input Mesh c) = IsUnfitFor task facets step c
+IsUnfit task facets step Memory = Unit {0}
+IsUnfit task facets step stop = ⊥

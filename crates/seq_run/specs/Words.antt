@@ -1,28 +1,36 @@
 -- What the words of a command ask for.
 --
 --   only xs             the only element of a list
---   request_of command  what a command that is built so far asks for: `arrange` without `--least`, of one mesh
+--   is_strict task      the run refuses meshes that aren't closed or don't look outward
+--   request_of command  what a command that is built so far asks for: `arrange` without `--least`, of one mesh, and `slices`
 --   is_built command    the command is answered so far
 --   requested words     what the words ask for, or why they are refused
-use Rattle.std.specs.Prelude.{ℕ, List, [], ◌∷◌, Bool, true, false, Option, Some, None, is_ok, Result, Ok, Err}
+use Rattle.std.specs.Prelude.{ℕ, List, [], ◌∷◌, Bool, false, Option, Some, None, is_ok, Result, Ok, Err}
 use Rattle.seq_words.specs.Asked.{asked}
 use Rattle.seq_words.specs.declared.command.Command.{Command}
 use Rattle.seq_words.specs.declared.command.Words.{Words}
 use Rattle.seq_run.specs.declared.words.Asked.{Asked}
 use Rattle.seq_run.specs.declared.words.Misworded.{Misworded}
 use Rattle.seq_run.specs.declared.words.Misworded.TheVariants.{Refused, NotBuilt}
+use Rattle.seq_run.specs.declared.words.Task.{Task}
+use Rattle.seq_run.specs.declared.words.Task.TheVariants as Tasks
 
 abbrev pub only : {A : Type 0} → List A → Option A
 only [] = None
 only (x ∷ []) = Some x
 only (x ∷ y ∷ xs) = None
 
-abbrev pub request_by : Bool → List ℕ → Option (List ℕ) → Result Asked Misworded
-request_by strict printer (Some mesh) = Ok (record { strict = strict; printer = printer; mesh = mesh })
-request_by strict printer None = Err NotBuilt
+abbrev pub is_strict : Task → Bool
+is_strict (Tasks.Arrange strict) = strict
+is_strict Tasks.Slices = false
+
+abbrev pub request_by : Task → List ℕ → Option (List ℕ) → Result Asked Misworded
+request_by task printer (Some mesh) = Ok (record { task = task; printer = printer; mesh = mesh })
+request_by task printer None = Err NotBuilt
 
 abbrev pub request_of : Command → Result Asked Misworded
-request_of (Command.Arrange false strict budget printer meshes) = request_by strict printer (only meshes)
+request_of (Command.Arrange false strict budget printer meshes) = request_by (Tasks.Arrange strict) printer (only meshes)
+request_of (Command.Slices printer mesh) = Ok (record { task = Tasks.Slices; printer = printer; mesh = mesh })
 request_of command = Err NotBuilt
 
 abbrev pub is_built : Command → Bool

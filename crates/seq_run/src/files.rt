@@ -1,8 +1,7 @@
 ghost use Rattle.std.specs.Prelude.{◌≡◌, ◌≤◌, Some, IfOk, IfErr, IsErrOf, IsTrue};
 ghost use Rattle.seq_io.specs.Counts.{Rose};
-ghost use Rattle.seq_model.specs.Scenes.{description_of};
 ghost use Rattle.seq_run.specs.Causes.{Explains};
-ghost use Rattle.seq_run.specs.Files.{IsMeshFile, IsPrinterFile, name_in};
+ghost use Rattle.seq_run.specs.Files.{IsMeshFile, IsPrinterOf, name_in};
 ghost use Rattle.seq_run.specs.declared.stop.NamedFile.{NamedFile};
 
 use crate::reading::read_file;
@@ -15,7 +14,7 @@ use stl_text::{Stl, read_mesh};
 
 /// The printer that the words name.
 pub fn read_printer<S: Shelf>(alloc: Global, asked: &Asked, shelf: &mut S) -> Result<Printer, Stop>
-    ensures is { IfOk result (λ printer. IsPrinterFile (S.files shelf.old) asked.now.printer (description_of printer printer.parts)) }
+    ensures is { IfOk result (IsPrinterOf (S.files shelf.old) asked.now.printer) }
     ensures why { IfErr result (Explains (S.files shelf.old) asked.now) }
     ensures fault { (file : NamedFile) → IsErrOf result (Stop.Read file) → Rose (S.faults shelf.old) (S.faults shelf.new) }
     ensures broken { (file : NamedFile) → IsErrOf result (Stop.Read file) → IsTrue (S.broken shelf.new) }
@@ -38,7 +37,7 @@ pub fn read_solid<S: Shelf>(
     printer: &Printer,
     shelf: &mut S,
 ) -> Result<Mesh, Stop>
-    requires { IsPrinterFile (S.files shelf.old) asked.now.printer (description_of printer.now printer.now.parts) }
+    requires { IsPrinterOf (S.files shelf.old) asked.now.printer printer.now }
     ensures is { IfOk result (λ mesh. IsMeshFile (S.files shelf.old) asked.now.mesh mesh.facets mesh.dropped) }
     ensures why { IfErr result (Explains (S.files shelf.old) asked.now) }
     ensures fault { (file : NamedFile) → IsErrOf result (Stop.Read file) → Rose (S.faults shelf.old) (S.faults shelf.new) }

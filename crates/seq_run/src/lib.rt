@@ -13,6 +13,7 @@ mod files;
 mod messages;
 mod planning;
 mod reading;
+mod slices;
 mod stop;
 mod telling;
 mod texts;
@@ -21,4 +22,4 @@ mod words;
 
 pub use stop::{Cause, NamedFile, Stop};
 pub use top::run;
-pub use words::{Asked, Misworded};
+pub use words::{Asked, Misworded, Task};

@@ -12,11 +12,11 @@ ghost use Rattle.seq_words.specs.Usages.{texts};
 ghost use Rattle.seq_words.specs.declared.command.Words.{Words};
 
 use crate::files::{read_printer, read_solid};
-use crate::messages::{note_of, status_of, words_line};
-use crate::planning::{Answer, arrange, looked, measured};
+use crate::messages::{status_of, words_line};
+use crate::planning::{Answer, arrange_mesh, slice_mesh};
 use crate::telling::{deliver, tell};
 use crate::words::request;
-use crate::{Asked, Misworded, NamedFile, Stop};
+use crate::{Asked, Misworded, Stop, Task};
 use seq_io::{Shelf, Sink, write_all};
 use seq_words::Words;
 use std::alloc::Global;
@@ -32,17 +32,9 @@ fn work<S: Shelf>(alloc: Global, asked: &Asked, shelf: &mut S) -> Result<Answer,
 {
     let printer = read_printer(alloc, asked, shelf)?;
     let mesh = read_solid(alloc, asked, &printer, shelf)?;
-    let looks = looked(alloc, asked.strict, &mesh)?;
-    let measure = match measured(&printer, &mesh) {
-        Ok(measure) => measure,
-        Err(cause) => return Err(Stop::Input(NamedFile::Mesh, cause)),
-    };
-    let Ok(notes) = note_of(alloc, &asked.mesh, &looks) else {
-        return Err(Stop::Memory);
-    };
-    match arrange(alloc, &printer, &measure, notes) {
-        Ok(answer) => Ok(answer),
-        Err(_) => Err(Stop::Memory),
+    match asked.task {
+        Task::Arrange { strict } => arrange_mesh(alloc, strict, &asked.mesh, &mesh, printer),
+        Task::Slices => slice_mesh(alloc, &asked.mesh, &mesh, &printer),
     }
 }
 

@@ -1,4 +1,5 @@
-ghost use Rattle.std.specs.Prelude.{◌≡◌, ◌⊎◌, Ok, Err, IfOk, IfErr};
+ghost use Rattle.std.specs.Prelude.{◌≡◌, ◌⊎◌, ℕ, Ok, Err, IfOk, IfErr};
+ghost use Rattle.seq_words.specs.declared.command.Command.{Command};
 ghost use Rattle.seq_words.specs.Usages.{texts};
 ghost use Rattle.seq_words.specs.declared.command.Words.{Words};
 ghost use Rattle.seq_run.specs.Words.{only, request_of, requested};
@@ -15,10 +16,18 @@ pub enum Misworded {
     NotBuilt,
 }
 
-/// The files that `arrange` names, and whether it is strict.
+/// What is to be done with a printer and a mesh.
+#[derive(Clone, Copy, PartialEq, Eq, Debug)]
+pub enum Task {
+    /// A strict run refuses a mesh that isn't closed or doesn't look outward.
+    Arrange { strict: bool },
+    Slices,
+}
+
+/// What the words ask for, and the files that they name.
 #[derive(Debug, Drop)]
 pub struct Asked {
-    pub strict: bool,
+    pub task: Task,
     pub printer: Text,
     pub mesh: Text,
 }
@@ -31,30 +40,46 @@ fn only(names: Items<Text>) -> Option<Text>
     if names.len() == 1 { names.pop() } else { None }
 }
 
-// What a command asks for, if it is built.
-fn request_of(command: Command) -> Result<Asked, Misworded>
-    ensures { result ≡ request_of command }
+// What `arrange` asks for: so far one mesh, and not the least extent.
+fn request_to_arrange(
+    least: bool,
+    strict: bool,
+    printer: Text,
+    meshes: Items<Text>,
+) -> Result<Asked, Misworded>
+    ensures { (budget : ℕ) → result ≡ request_of (Command.Arrange least strict budget printer meshes) }
 {
-    let Command::Arrange {
-        least,
-        strict,
-        budget: _,
-        printer,
-        meshes,
-    } = command
-    else {
-        return Err(Misworded::NotBuilt);
-    };
     if least {
         return Err(Misworded::NotBuilt);
     }
     match only(meshes) {
         Some(mesh) => Ok(Asked {
-            strict,
+            task: Task::Arrange { strict },
             printer,
             mesh,
         }),
         None => Err(Misworded::NotBuilt),
+    }
+}
+
+// What a command asks for, if it is built.
+fn request_of(command: Command) -> Result<Asked, Misworded>
+    ensures { result ≡ request_of command }
+{
+    match command {
+        Command::Arrange {
+            least,
+            strict,
+            budget: _,
+            printer,
+            meshes,
+        } => request_to_arrange(least, strict, printer, meshes),
+        Command::Slices { printer, mesh } => Ok(Asked {
+            task: Task::Slices,
+            printer,
+            mesh,
+        }),
+        _ => Err(Misworded::NotBuilt),
     }
 }
 

@@ -1,11 +1,7 @@
 use crate::meshes::{block, blocks, cube_with_a_dropped_facet, exported_cube, open_cube};
-use seq_io::{MemFile, MemShelf, MemSink, ReadAll, Shelf, read_all};
-use seq_run::run;
-use std::alloc::Global;
+use crate::runs::{PLATE, run_in_memory};
+use seq_io::{MemFile, MemShelf, ReadAll, Shelf, read_all};
 use std::test::Fail;
-
-const PLATE: &[u8] =
-    b"format = 1\ngrain = 1\nplate = [100, 100]\nstep = 10\nmargin = 1\ngrid = 100\n";
 
 const SMALL_PLATE: &[u8] =
     b"format = 1\ngrain = 1\nplate = [20, 20]\nstep = 10\nmargin = 1\ngrid = 100\n";
@@ -17,40 +13,6 @@ const PARTS: &[u8] =
     b"format = 1\ngrain = 1\nplate = [100, 100]\nstep = 10\nmargin = 1\ngrid = 100\n\n[[part]]\nname = \"nozzle\"\nfrom = 0\ncorners = [[-2, -2], [2, -2], [2, 2], [-2, 2]]\n";
 
 const PLAN: &[u8] = b"seqplan 1\nstate found\ngrid 100\nextent 100\nscale 1\nplace 0 1 1\n";
-
-#[derive(Drop)]
-struct Outcome {
-    status: u8,
-    out: MemSink,
-    err: MemSink,
-}
-
-// A run over a printer `p0.toml` and a mesh of this name in memory.
-fn run_in_memory(
-    alloc: Global,
-    printer: &[u8],
-    name: &str,
-    mesh: Vec<u8>,
-    words: &[&str],
-    failing_reads: &[u64],
-    failing_writes: &[u64],
-) -> Result<Outcome, Fail> {
-    let mut files = Vec::new(alloc);
-    files.push(MemFile::new(
-        String::from_str(alloc, "p0.toml")?,
-        Vec::from_slice(alloc, printer)?,
-    ))?;
-    files.push(MemFile::new(String::from_str(alloc, name)?, mesh))?;
-    let mut shelf = MemShelf::new(files, 1 << 20, Vec::from_slice(alloc, failing_reads)?);
-    let mut out = MemSink::new(alloc, 4096, 10, Vec::from_slice(alloc, failing_writes)?)?;
-    let mut err = MemSink::new(alloc, 4096, 4096, Vec::new(alloc))?;
-    let mut own_words = Vec::new(alloc);
-    for word in words {
-        own_words.push(String::from_str(alloc, word)?)?;
-    }
-    let status = run(alloc, &own_words, &mut shelf, &mut out, &mut err);
-    Ok(Outcome { status, out, err })
-}
 
 #[test]
 fn one_mesh_has_a_plan_or_a_certificate(rt: HostRuntime) -> Result<(), Fail> {
@@ -277,7 +239,7 @@ static RUNS: [(&[&str], &[u64], u8, &[u8]); 20] = [
     ),
     (&["check", "p", "q", "r"], &[], 2, b"words: not yet\n"),
     (&["audit", "p", "q", "r"], &[], 2, b"words: not yet\n"),
-    (&["slices", "p", "q"], &[], 2, b"words: not yet\n"),
+    (&["slices", "p0.toml", "b.stl"], &[], 3, b"read: b.stl\n"),
     (&["trial", "1", "0"], &[], 2, b"words: not yet\n"),
     (
         &["arrange", "--least", "p", "q"],

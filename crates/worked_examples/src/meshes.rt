@@ -122,3 +122,42 @@ pub(crate) fn cube_with_a_dropped_facet(alloc: Global) -> Result<Vec<u8>, Fail> 
     text.extend_from_slice(b"endsolid more\n")?;
     Ok(text)
 }
+
+/// A pyramid over a square of 20 mm, 20 mm high.
+pub(crate) fn pyramid(alloc: Global) -> Result<Vec<u8>, Fail> {
+    let top = (10, 10, 20);
+    let facets = [
+        [(0, 0, 0), (20, 20, 0), (20, 0, 0)],
+        [(0, 0, 0), (0, 20, 0), (20, 20, 0)],
+        [(0, 0, 0), (20, 0, 0), top],
+        [(20, 0, 0), (20, 20, 0), top],
+        [(20, 20, 0), (0, 20, 0), top],
+        [(0, 20, 0), (0, 0, 0), top],
+    ];
+    solid(alloc, &facets)
+}
+
+/// A prism over a triangle with two sides of 20 mm, 20 mm high.
+pub(crate) fn wedge(alloc: Global) -> Result<Vec<u8>, Fail> {
+    let facets = [
+        [(0, 0, 0), (0, 20, 0), (20, 0, 0)],
+        [(0, 0, 20), (20, 0, 20), (0, 20, 20)],
+        [(0, 0, 0), (20, 0, 0), (20, 0, 20)],
+        [(0, 0, 0), (20, 0, 20), (0, 0, 20)],
+        [(20, 0, 0), (0, 20, 0), (0, 20, 20)],
+        [(20, 0, 0), (0, 20, 20), (20, 0, 20)],
+        [(0, 20, 0), (0, 0, 0), (0, 0, 20)],
+        [(0, 20, 0), (0, 0, 20), (0, 20, 20)],
+    ];
+    solid(alloc, &facets)
+}
+
+// The plain text of these facets.
+fn solid(alloc: Global, facets: &[[Point; 3]]) -> Result<Vec<u8>, Fail> {
+    let mut text = Vec::from_slice(alloc, b"solid s\n")?;
+    for corners in facets {
+        facet(alloc, &mut text, Style::Plain, *corners)?;
+    }
+    text.extend_from_slice(b"endsolid s\n")?;
+    Ok(text)
+}
