@@ -14,8 +14,8 @@ ghost use Rattle.mesh_checks.specs.Edges.{edges, each_once, open_edges, HasEachO
 ghost use Rattle.mesh_checks.specs.Volumes.{six_volume};
 ghost use Rattle.mesh_checks.specs.Verdicts.{IsClosedOutward, IsDue};
 
-mod volume;
 mod half_edges;
+mod volume;
 
 use seq_model::Mesh;
 use seq_num::NoMemory;
