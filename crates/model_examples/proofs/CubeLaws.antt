@@ -29,13 +29,13 @@ abbrev origin : Point
 origin = at (pos 0) (pos 0)
 
 -- an inner point of a cube lies strictly between its edges
-cube_west : (q : Point) → Inner cube q → q.x <ℤ (pos 21 *ℤ q.d)
+pub cube_west : (q : Point) → Inner cube q → q.x <ℤ (pos 21 *ℤ q.d)
 cube_west q m = west_of cube q (pos 21) (spot (negsuc 0) (negsuc 0)) m (le_z_yes tt, (le_z_yes tt, (le_z_yes tt, (le_z_yes tt, tt)))) (inl refl) (lt_z_yes tt)
 
-cube_east : (q : Point) → Inner cube q → (negsuc 0 *ℤ q.d) <ℤ q.x
+pub cube_east : (q : Point) → Inner cube q → (negsuc 0 *ℤ q.d) <ℤ q.x
 cube_east q m = east_of cube q (negsuc 0) (spot (pos 21) (negsuc 0)) m (le_z_yes tt, (le_z_yes tt, (le_z_yes tt, (le_z_yes tt, tt)))) (inr (inl refl)) (lt_z_yes tt)
 
-nozzle_east : (q : Point) → Inner nozzle q → (negsuc 1 *ℤ q.d) ≤ℤ q.x
+pub nozzle_east : (q : Point) → Inner nozzle q → (negsuc 1 *ℤ q.d) ≤ℤ q.x
 nozzle_east q m =
     let h = east_of nozzle q (negsuc 1) (spot (pos 2) (negsuc 1)) m (le_z_yes tt, (le_z_yes tt, (le_z_yes tt, (le_z_yes tt, tt)))) (inr (inl refl)) (lt_z_yes tt) in
     omega (arith, ints, h)
@@ -87,7 +87,7 @@ cubes = scene_of_job two_cubes
 pub collide_at_47_2 : Collides cubes 0 origin 1 (half (pos 47) (pos 0))
 collide_at_47_2 = record { b = 0; c = 0; part = nozzle_part; band_of_later = lit< tt; band_of_earlier = lit< tt; part_of_scene = (1, lit< tt, refl); meets = record { from_low = lit≤ tt; to_high = tt }; overlap = meet_at_47_2 }
 
-spots_of : (o b : ℕ) → o < 2 → b < 2 → cubes.spots o b ≡ cube
+pub spots_of : (o b : ℕ) → o < 2 → b < 2 → cubes.spots o b ≡ cube
 spots_of zero zero h k = refl
 spots_of zero (suc zero) h k = refl
 spots_of (suc zero) zero h k = refl

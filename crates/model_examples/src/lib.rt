@@ -11,6 +11,7 @@ pub mod bands;
 pub mod outlines;
 pub mod pairs;
 pub mod sides;
+pub mod splits;
 pub mod systems;
 pub mod trees;
 pub mod walks;
