@@ -131,10 +131,12 @@ tables_in most d = tables_from most (as_array d)
 abbrev pub is_name_byte : ℕ → Bool
 is_name_byte c = is_ascii_alphanumeric c || (c == 95 || c == 45)
 
+abbrev pub is_name : ℕ → ℕ → List ℕ → Bool
+is_name least most s = nat_le least (length s) && (nat_le (length s) most && list_all is_name_byte s)
+
 abbrev pub name_from : ℕ → ℕ → Option (List ℕ) → Result (List ℕ) Cause
 name_from least most None = Err cause.Kind
-name_from least most (Some s) =
-    if nat_le least (length s) && (nat_le (length s) most && list_all is_name_byte s) then Ok s else Err cause.Range
+name_from least most (Some s) = if is_name least most s then Ok s else Err cause.Range
 
 -- a string of so many bytes of a name
 unfoldable pub name_in : ℕ → ℕ → Data → Result (List ℕ) Cause

@@ -172,6 +172,7 @@ pub fn axis_if(table: &Table, key: Key) -> Result<Option<bool>, Bad>
     }
 }
 
+#[tactic(auto, using(std::proofs::lemmas::List::drop_more))]
 fn is_named(keys: &[Key], text: &str) -> bool
     ensures { result ≡ is_named keys.now text.now }
 {

@@ -4,7 +4,7 @@ ghost use Rattle.std.specs.Prelude.{◌≡◌, ◌≤ℤ◌, ◌<ℤ◌, ◌*ℤ
 ghost use Rattle.std.specs.Result.{result_map_both};
 ghost use Rattle.seq_model.specs.declared.printer.Spot.{Spot};
 ghost use Rattle.toml.specs.View.{view, items_view};
-ghost use Rattle.printer_text.specs.Values.{within, on_lattice, millimetres, length_of, integer_in, length_in, grains_in, may_be_length, pair_of, pair_in, is_pair, are_pairs, are_tables, count, pairs_behind, corners_in, tables_in, is_name_byte, name_in, axis_in};
+ghost use Rattle.printer_text.specs.Values.{within, on_lattice, millimetres, length_of, integer_in, length_in, grains_in, may_be_length, pair_of, pair_in, is_pair, are_pairs, are_tables, count, pairs_behind, corners_in, tables_in, is_name, name_in, axis_in};
 ghost use Rattle.printer_text.specs.declared.values.Cause.{Cause};
 
 use crate::Key;
@@ -254,13 +254,14 @@ pub fn tables_in(most: usize, value: &Value) -> Result<&[Value], Cause>
     Ok(values)
 }
 
-fn is_name(least: usize, most: usize, text: &str) -> bool {
+fn is_name(least: usize, most: usize, text: &str) -> bool
+    ensures { result ≡ is_name least most text.now }
+{
     if text.len() < least || most < text.len() {
         return false;
     }
-    text.as_bytes().iter().all(|byte| byte.is_ascii_alphanumeric()
-        || *byte == b'_'
-        || *byte == b'-')
+    let bytes = text.as_bytes();
+    bytes.iter().all(|byte| byte.is_ascii_alphanumeric() || *byte == b'_' || *byte == b'-')
 }
 
 /// A text of `least` to `most` bytes of a name.
