@@ -1,56 +1,24 @@
--- Convex outlines: what their corners are.
+-- Convex outlines: what their corners are. `turn`, `IsBefore`, `StartsLeast`, `LeftAbout`, `TurnsLeft` and `AreCorners` are those
+-- of `seq_model`.
 --
---   turn a b c          more than 0 where c lies to the left of the way from a to b, 0 where it lies on it
---   turn_at a b q       the same for a point q, times its denominator
+--   turn_at a b q       the turn from a to b at a point q, times its denominator
 --   at_spot s           the point that a spot is
---   IsBefore a b        a has the lesser x, or the same x and the lesser y
---   StartsLeast C       the first corner is before each other one
---   LeftAbout a C       any two of C, in their order, stand counterclockwise about a
---   TurnsLeft C         any three of C, in their order, turn left
---   AreCorners C        the corners of a convex outline, counterclockwise from the least: what `hull` gives
 --   NoThreeOnALine C    of three different members none lies on the line of the other two
 --   IsBetween a b s     s is not before a and not after b
 --   AreEnds S C         C are the first and the last member of S in that order, one if they are the same, none of no member
 --   HasArea S           three members turn left: they don't all lie on one line
 --   IsNear s            the coordinates of s are below 2^21 in size
 use Rattle.std.specs.Prelude.{◌≡◌, ◌<◌, ◌^◌, List, [], ◌∷◌, ℤ, pos, ◌-ℤ◌, ◌*ℤ◌, ◌<ℤ◌, ◌⊎◌, unsigned_abs, All, Contains}
+pub use Rattle.seq_model.specs.Corners.{turn, IsBefore, StartsLeast, LeftAbout, TurnsLeft, AreCorners}
 use Rattle.seq_model.specs.declared.printer.Spot.{Spot}
 use Rattle.seq_model.specs.Points.{Point}
 
--- more than 0 where c lies to the left of the way from a to b
-abbrev pub turn : Spot → Spot → Spot → ℤ
-turn a b c = (b.x -ℤ a.x) *ℤ (c.y -ℤ a.y) -ℤ (b.y -ℤ a.y) *ℤ (c.x -ℤ a.x)
-
--- the same for a point, times its denominator
+-- the turn at a point, times its denominator
 abbrev pub turn_at : Spot → Spot → Point → ℤ
 turn_at a b q = (b.x -ℤ a.x) *ℤ (q.y -ℤ q.d *ℤ a.y) -ℤ (b.y -ℤ a.y) *ℤ (q.x -ℤ q.d *ℤ a.x)
 
 abbrev pub at_spot : Spot → Point
 at_spot s = record { x = s.x; y = s.y; d = pos 1 }
-
--- by x, and then by y
-abbrev pub IsBefore : Spot → Spot → Type 0
-IsBefore a b = (a.x <ℤ b.x) ⊎ ((a.x ≡ b.x) × (a.y <ℤ b.y))
-
--- the first is before each other one
-abbrev pub StartsLeast : List Spot → Type 0
-StartsLeast [] = Unit {0}
-StartsLeast (c ∷ cs) = All (IsBefore c) cs
-
--- any two, in their order, stand counterclockwise about a
-abbrev pub LeftAbout : Spot → List Spot → Type 0
-LeftAbout a [] = Unit {0}
-LeftAbout a (b ∷ cs) = All (λ c. pos 0 <ℤ turn a b c) cs × LeftAbout a cs
-
--- any three, in their order, turn left: so no three lie on one line
-abbrev pub TurnsLeft : List Spot → Type 0
-TurnsLeft [] = Unit {0}
-TurnsLeft (a ∷ bs) = LeftAbout a bs × TurnsLeft bs
-
--- the corners of a convex outline, counterclockwise from the least
-pub record AreCorners (C : List Spot) : Type 0 where
-  pub least : StartsLeast C
-  pub left : TurnsLeft C
 
 -- of three different members none lies on the line of the other two
 abbrev pub NoThreeOnALine : List Spot → Type 0

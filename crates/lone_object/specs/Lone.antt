@@ -1,11 +1,10 @@
 -- One object alone on the plate.
 --
 --   xs, ys facets          the x and the y coordinates of all vertices
---   IsNearSpot s           the coordinates of s are at most 20,001,000 grains in size
 --   FitsPlate w h low high the rectangle from low to high is at most w wide and h deep
 --   zero_place low         the place that moves the corner low to the plate's low corner
 --   lone_plan place        the plan of this one place, at scale 1
-use Rattle.std.specs.Prelude.{ℤ, pos, ◌≤◌, unsigned_abs, ◌-ℤ◌, neg_ℤ, ◌≤ℤ◌, List, [], ◌∷◌, map}
+use Rattle.std.specs.Prelude.{ℤ, pos, ◌-ℤ◌, neg_ℤ, ◌≤ℤ◌, List, [], ◌∷◌, map}
 use Rattle.seq_model.specs.declared.mesh.Facet.{Facet}
 use Rattle.seq_model.specs.declared.mesh.Point3.{Point3}
 use Rattle.seq_model.specs.declared.plan.Place.{Place}
@@ -18,11 +17,6 @@ xs facets = map (λ (p : Point3). p.x) (vertices facets)
 
 abbrev pub ys : List Facet → List ℤ
 ys facets = map (λ (p : Point3). p.y) (vertices facets)
-
--- a coarse bound: 10 m twice, in µm, and the greatest margin. In grains of at least 10 µm spots are far nearer
-pub record IsNearSpot (s : Spot) : Type 0 where
-  pub x : unsigned_abs s.x ≤ 20_001_000
-  pub y : unsigned_abs s.y ≤ 20_001_000
 
 -- the span from low to high is at most the plate's size, in x and in y
 pub record FitsPlate (width depth : ℤ) (low high : Spot) : Type 0 where

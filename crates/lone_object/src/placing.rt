@@ -1,12 +1,12 @@
 ghost use Rattle.std.specs.Prelude.{◌≡◌, ◌<◌, ◌≤◌, ◌↔◌, ℤ, pos, ◌-ℤ◌, neg_ℤ, ◌≤ℤ◌, List, ◌∷◌, [], length, All, IfSome, IsSome, IsTrue, unsigned_abs, max};
 ghost use Rattle.integer_laws.specs.Quotients.{floor, ceil};
 ghost use Rattle.seq_model.specs.Bands.{band_count};
-ghost use Rattle.seq_model.specs.Bounds.{IsNear, IsNearFacet};
+ghost use Rattle.seq_model.specs.Bounds.{IsNear, IsNearFacet, IsNearSpot};
 ghost use Rattle.seq_model.specs.Outlines.{below, above};
 ghost use Rattle.seq_model.specs.Scenes.{Scene, Spans, Valid, scene_of_files, description_of};
 ghost use Rattle.seq_model.specs.declared.printer.Part.{Part};
 ghost use Rattle.seq_model.specs.declared.printer.Spot.{Spot};
-ghost use Rattle.lone_object.specs.Lone.{IsNearSpot, FitsPlate, zero_place, lone_plan};
+ghost use Rattle.lone_object.specs.Lone.{FitsPlate, zero_place, lone_plan};
 
 use crate::extremes::extremes_of;
 use seq_model::{Facet, Place, Point3, Printer, Spot};
@@ -122,7 +122,7 @@ pub fn measure_object(printer: &Printer, facets: &[Facet]) -> Measure
     requires some { 0 < length facets.now }
     ensures spans { (listed : List Part) → Spans (scene_of_files (description_of printer.now listed) (facets.now ∷ [])) 0 result.low result.high }
     ensures bands { result.bands ≡ band_count facets.now printer.now.step }
-    ensures near { IsNearSpot result.low × IsNearSpot result.high }
+    ensures near { IsNearSpot 20_001_000 result.low × IsNearSpot 20_001_000 result.high }
 {
     let found = extremes_of(facets);
     let low = low_spot(&found.low, printer);
@@ -133,7 +133,7 @@ pub fn measure_object(printer: &Printer, facets: &[Facet]) -> Measure
 
 // Whether the rectangle from low to high is at most as large as the plate.
 fn fits(low: &Spot, high: &Spot, printer: &Printer) -> bool
-    requires near { IsNearSpot low.now × IsNearSpot high.now }
+    requires near { IsNearSpot 20_001_000 low.now × IsNearSpot 20_001_000 high.now }
     ensures { IsTrue result ↔ FitsPlate printer.now.width printer.now.depth low.now high.now }
 {
     if difference(high.x, low.x) > printer.width {
@@ -148,7 +148,7 @@ fn fits(low: &Spot, high: &Spot, printer: &Printer) -> bool
 /// The place that moves the least spot of the only object to the plate's low corner; None exactly where
 /// the object's span is more than the plate's size.
 pub fn place_alone(printer: &Printer, measure: &Measure) -> Option<Place>
-    requires { IsNearSpot measure.now.low × IsNearSpot measure.now.high }
+    requires { IsNearSpot 20_001_000 measure.now.low × IsNearSpot 20_001_000 measure.now.high }
     ensures fits { IsSome result ↔ FitsPlate printer.now.width printer.now.depth measure.now.low measure.now.high }
     ensures place { IfSome result (λ place. place ≡ zero_place measure.now.low) }
 {

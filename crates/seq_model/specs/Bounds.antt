@@ -1,11 +1,17 @@
 -- The bounds that meshes and printers keep.
 --
+--   IsNearSpot n s          the coordinates of the spot s are at most n grains in size
 --   IsNear p                the coordinates of p are at most 10,000,000 µm in size
 --   IsNearFacet f           its three corners are near
 --   IsPrinter g w d s m n   grain, width, depth, step, margin and grid are in their ranges
 use Rattle.std.specs.Prelude.{ℕ, ℤ, pos, ◌≤◌, ◌≤ℤ◌, unsigned_abs}
+use Rattle.seq_model.specs.declared.printer.Spot.{Spot}
 use Rattle.seq_model.specs.declared.mesh.Point3.{Point3}
 use Rattle.seq_model.specs.declared.mesh.Facet.{Facet}
+
+pub record IsNearSpot (n : ℕ) (s : Spot) : Type 0 where
+  pub x : unsigned_abs s.x ≤ n
+  pub y : unsigned_abs s.y ≤ n
 
 -- a corner lies within 10 m of the origin in each coordinate, in µm
 pub record IsNear (p : Point3) : Type 0 where

@@ -5,24 +5,14 @@
 --   IsMostSides job s        s is the greatest number of sides of a contact, and at least 3
 --   full_of job s            2 ^ (p + 1) * s ^ c for p pairs, and c the sum over them of the greater of their two numbers of contacts
 --   Full job full            full is this number
-use Rattle.std.specs.Prelude.{◌≡◌, ℕ, ◌+◌, ◌*◌, ◌^◌, ◌≤◌, List, Bool, ◌&&◌, nat_le, length, Some, None, Option, ◌⊎◌, max, true}
+use Rattle.std.specs.Prelude.{◌≡◌, ℕ, ◌+◌, ◌*◌, ◌^◌, ◌≤◌, List, length, ◌⊎◌, max}
 use Rattle.std.specs.List.{range_with_len, sum_by, count_by}
-use Rattle.seq_model.specs.Contacts.{points_of, IsContact}
+use Rattle.seq_model.specs.Contacts.{points_of, IsContact, zones_meet}
 use Rattle.seq_model.specs.Jobs.{object_at}
 use Rattle.seq_model.specs.Sides.{AreSides}
 use Rattle.seq_model.specs.declared.job.Job.{Job}
-use Rattle.seq_model.specs.declared.job.Zone.{Zone}
-use Rattle.seq_model.specs.declared.printer.Part.{Part}
 use Rattle.seq_model.specs.declared.tree.Contact.{Contact}
 use Rattle.seq_model.specs.declared.tree.Dir.{Dir}
-
--- whether b + hi reaches c, or the part has no end
-abbrev pub reaches_to : Option ℕ → ℕ → ℕ → Bool
-reaches_to None b c = true
-reaches_to (Some hi) b c = nat_le c (b + hi)
-
-abbrev pub zones_meet : Zone → Part → Zone → Bool
-zones_meet earlier part later = nat_le (later.first + part.lo) earlier.last && reaches_to part.hi later.last earlier.first
 
 abbrev pub contact_count : Job → ℕ → ℕ → ℕ
 contact_count job i j =

@@ -1,9 +1,10 @@
 -- Contacts of a job.
 --
---   difference A B F     all a - b - f over members of the three lists
---   IsContact job c      it names two different objects, a zone of each and a part, and bands of the zones meet
---   points_of job c      the difference of the contact: over the earlier zone, the later zone and the part
-use Rattle.std.specs.Prelude.{◌≢◌, ◌+◌, ◌<◌, ◌≤◌, List, ◌-ℤ◌, length, map, MatchOption}
+--   difference A B F          all a - b - f over members of the three lists
+--   ZonesMeet earlier p later some bands of the two zones meet by the part
+--   IsContact job c           it names two different objects, a zone of each and a part, and the zones meet
+--   points_of job c           the difference of the contact: over the earlier zone, the later zone and the part
+use Rattle.std.specs.Prelude.{◌≢◌, ℕ, ◌+◌, ◌<◌, List, ◌-ℤ◌, length, map, Option, Some, None, Bool, ◌&&◌, nat_le, true, IsTrue}
 use Rattle.std.specs.List.{flat_map}
 use Rattle.seq_model.specs.Jobs.{object_at, zone_at, part_at}
 use Rattle.seq_model.specs.declared.job.Job.{Job}
@@ -18,9 +19,17 @@ less a b = record { x = a.x -ℤ b.x; y = a.y -ℤ b.y }
 abbrev pub difference : List Spot → List Spot → List Spot → List Spot
 difference A B F = flat_map (λ a. flat_map (λ b. map (less (less a b)) F) B) A
 
+-- b + hi reaches c, or there is no end
+abbrev pub reaches_to : Option ℕ → ℕ → ℕ → Bool
+reaches_to None b c = true
+reaches_to (Some hi) b c = nat_le c (b + hi)
+
 -- some bands of the two zones meet by the part
+abbrev pub zones_meet : Zone → Part → Zone → Bool
+zones_meet earlier part later = nat_le (later.first + part.lo) earlier.last && reaches_to part.hi later.last earlier.first
+
 abbrev pub ZonesMeet : Zone → Part → Zone → Type 0
-ZonesMeet earlier part later = (later.first + part.lo ≤ earlier.last) × MatchOption part.hi (Unit {0}) (λ hi. earlier.first ≤ later.last + hi)
+ZonesMeet earlier part later = IsTrue (zones_meet earlier part later)
 
 pub record IsContact (job : Job) (c : Contact) : Type 0 where
   pub i_in : c.i < length job.objects

@@ -2,10 +2,10 @@ pub mod Bands
 pub mod Bounds
 pub mod Budgets
 pub mod Contacts
-pub mod Cubes
-pub mod Dictionaries
+pub mod Corners
 pub mod Extremes
 pub mod Jobs
+pub mod OneProof
 pub mod Outlines
 pub mod Parts
 pub mod Plates
@@ -16,4 +16,3 @@ pub mod Soundness
 pub mod Splits
 pub mod Systems
 pub mod Trees
-pub mod Walks

@@ -8,7 +8,6 @@
 --   Collides s i p j r         object i at p, printed earlier, collides with object j at r
 --   In s e plan                every moved spot lies in the region of extent e
 --   Valid s e plan             every object once, in the region, and no earlier one collides with a later one
---   LiesWithin inner outer     a region lies in another
 --   Least s e                  some plan is valid at e, and none at a smaller extent
 use Rattle.std.specs.Prelude.{ℕ, ℤ, pos, ◌+◌, ◌<◌, ◌≤◌, ◌+ℤ◌, ◌*ℤ◌, ◌≤ℤ◌, ◌≡◌, List, [], length, All, AllPairs, Contains, MatchOption, count_by, nat_eq, slice_index_or}
 use Rattle.seq_model.specs.declared.mesh.Facet.{Facet}
@@ -151,10 +150,3 @@ pub record Least (scene : Scene) (e : ℕ) : Type 0 where
   pub plan : Plan
   pub valid : Valid scene e plan
   pub none : (f : ℕ) → f < e → (q : Plan) → Valid scene f q → ⊥
-
--- a region lies in another, edges included
-pub record LiesWithin (inner outer : Region) : Type 0 where
-  pub west : outer.low.x ≤ℤ inner.low.x
-  pub east : (inner.low.x +ℤ inner.w) ≤ℤ (outer.low.x +ℤ outer.w)
-  pub south : outer.low.y ≤ℤ inner.low.y
-  pub north : (inner.low.y +ℤ inner.h) ≤ℤ (outer.low.y +ℤ outer.h)

@@ -32,16 +32,13 @@ pub record Side (S : List Spot) (dir : Dir) : Type 0 where
 abbrev pub IsUpper : Dir → Type 0
 IsUpper d = (pos 0 <ℤ d.y) ⊎ ((d.y ≡ pos 0) × (pos 0 <ℤ d.x))
 
-abbrev pub TurnsLeft : Dir → Dir → Type 0
-TurnsLeft d e = pos 0 <ℤ (d.x *ℤ e.y -ℤ d.y *ℤ e.x)
-
--- d has a smaller angle than e
-abbrev pub IsBefore : Dir → Dir → Type 0
-IsBefore d e = (IsUpper d × (IsUpper e → ⊥)) ⊎ ((IsUpper d ↔ IsUpper e) × TurnsLeft d e)
+-- d has a smaller angle than e: by halves, and within one half e lies to the left of d
+abbrev pub HasLesserAngle : Dir → Dir → Type 0
+HasLesserAngle d e = (IsUpper d × (IsUpper e → ⊥)) ⊎ ((IsUpper d ↔ IsUpper e) × (pos 0 <ℤ (d.x *ℤ e.y -ℤ d.y *ℤ e.x)))
 
 pub record AreSides (S : List Spot) (dirs : List Dir) : Type 0 where
   pub each : (dir : Dir) → Contains dirs dir ↔ Side S dir
-  pub order : AllPairs IsBefore dirs
+  pub order : AllPairs HasLesserAngle dirs
 
 abbrev pub Beyond : List Spot → Dir → Point → Type 0
 Beyond S dir p = (greatest_along dir S *ℤ p.d) ≤ℤ (dir.x *ℤ p.x +ℤ dir.y *ℤ p.y)

@@ -13,8 +13,8 @@ use Rattle.seq_model.specs.Budgets.{IsMostSides}
 use Rattle.seq_model.specs.Contacts.{IsContact}
 use Rattle.seq_model.specs.Jobs.{zone_at, part_at, scene_of_job}
 use Rattle.seq_model.specs.Scenes.{Overlap, Collides}
-use Rattle.seq_model.specs.Systems.{system, Meets, place_of}
-use Rattle.seq_model.specs.Trees.{IsCycle, AreChildren, IsSound, Reads, IsTree}
+use Rattle.seq_model.specs.Systems.{system, MeetsRows, place_of}
+use Rattle.seq_model.specs.Trees.{IsCycle, AreChildren, IsSoundNode, Reads, IsTree}
 use Rattle.seq_model.specs.declared.job.Job.{Job}
 use Rattle.seq_model.specs.declared.tree.Choice.{Choice}
 use Rattle.seq_model.specs.declared.tree.Choice.TheVariants as Choices
@@ -28,7 +28,7 @@ pub record Values : Type 0 where
 
 -- all variables are at least 0, and all rows of the system are met
 pub record IsOn (job : Job) (e : ℕ) (path : List Choice) (at : Values) : Type 0 where
-  pub meets : Meets (system job e path) at.d at.u
+  pub meets : MeetsRows (system job e path) at.d at.u
   pub many : length at.u ≡ 2 * length job.objects
 
 -- at some point of the path this holds
@@ -64,19 +64,15 @@ Earned job e path (Nodes.Side contact children) = Somewhere job e path (λ at. C
 Earned job e path (Nodes.Order i j) =
     IsUnordered path i j × Somewhere job e path (λ at.
     (CollidesAt job e at i j × CollidesAt job e at j i) ⊎ (AreNeighbours job e path at i j ⊎ AreNeighbours job e path at j i))
-Earned job e path (Nodes.Bound mults) = Unit {0}
-Earned job e path (Nodes.Cycle objects) = Unit {0}
-Earned job e path Nodes.Pending = Unit {0}
+Earned job e path leaf = Unit {0}
 
 abbrev pub Grounded : Job → ℕ → List Choice → Node → Type 0
 Grounded job e path (Nodes.Side contact children) = Somewhere job e path (λ at. ContactCollidesAt job e at contact)
 Grounded job e path (Nodes.Order i j) = IsUnordered path i j × Somewhere job e path (λ at. CollidesAt job e at i j ⊎ CollidesAt job e at j i)
-Grounded job e path (Nodes.Bound mults) = Unit {0}
-Grounded job e path (Nodes.Cycle objects) = Unit {0}
-Grounded job e path Nodes.Pending = Unit {0}
+Grounded job e path leaf = Unit {0}
 
 pub record OpenTree (job : Job) (e : ℕ) (nodes : List Node) : Type 0 where
-  pub tree : IsTree job (λ path node. IsSound job e path node × Earned job e path node) [] nodes
+  pub tree : IsTree job (λ path node. IsSoundNode job e path node × Earned job e path node) [] nodes
   pub pending : Contains nodes Nodes.Pending
 
 -- node k of the tree stands at this path
@@ -86,15 +82,13 @@ StandsAt job nodes k path = (left : List (List Choice)) × Reads job (λ at node
 abbrev pub IsSplit : Node → Type 0
 IsSplit (Nodes.Order i j) = Unit {0}
 IsSplit (Nodes.Side contact children) = Unit {0}
-IsSplit (Nodes.Bound mults) = ⊥
-IsSplit (Nodes.Cycle objects) = ⊥
-IsSplit Nodes.Pending = ⊥
+IsSplit leaf = ⊥
 
 -- a split that could be made at the path
 pub record CouldSplit (job : Job) (e : ℕ) (path : List Choice) : Type 0 where
   pub node : Node
   pub split : IsSplit node
-  pub sound : IsSound job e path node
+  pub sound : IsSoundNode job e path node
   pub paths : List (List Choice)
   pub children : AreChildren job path node paths
   pub earned : Earned job e path node

@@ -2,7 +2,7 @@
 --
 --   Row                  c and the coefficients a say that c plus the sum of a * u is at least 0
 --   system job e path    the bounds, two rows for each object, then one row for each side of the path in path order
---   Meets rows d u       the point u / d has no negative coordinate and meets every row
+--   MeetsRows rows d u   the point u / d has no negative coordinate and meets every row
 --   Contradiction rows mults     with these multipliers every coefficient sums to at most 0, and the constants to less than 0
 --   place_of job e d u o         where object o stands at the point u / d
 --
@@ -63,7 +63,7 @@ system job e path = bounds_of job e 0 job.objects ++ side_rows job path
 abbrev pub row_value : ℤ → List ℤ → Row → ℤ
 row_value d u row = d *ℤ row.c +ℤ dot row.a u
 
-pub record Meets (rows : List Row) (d : ℤ) (u : List ℤ) : Type 0 where
+pub record MeetsRows (rows : List Row) (d : ℤ) (u : List ℤ) : Type 0 where
   pub positive : pos 1 ≤ℤ d
   pub coordinates : All (λ x. pos 0 ≤ℤ x) u
   pub each : All (λ row. pos 0 ≤ℤ row_value d u row) rows

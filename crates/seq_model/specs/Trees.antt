@@ -1,8 +1,9 @@
 -- Trees of choices, as lists of nodes in preorder, and when a tree refutes a path.
 --
+--   IsPath job path               each side on the path may follow the choices before it
 --   IsCycle R objects             at least two objects, each in the relation R to the next one, and the last to the first
 --   AreChildren job path node ps  the paths of the node's children are ps, in their order
---   IsSound job e path node       what is asked of a node at its path, but for its children
+--   IsSoundNode job e path node   what is asked of a node at its path, but for its children
 --   IsClosed node                 it isn't pending
 --   Reads job Good todo nodes left   read from the left, the nodes stand at the paths `todo` in turn, each is Good at its
 --                                 path, and the paths `left` are then still to come
@@ -13,7 +14,7 @@
 -- words: a tree for the path is its first node and then, one after the other, a tree for each child's path.
 use Rattle.std.specs.Prelude.{◌≡◌, ℕ, ◌<◌, ◌≤◌, List, [], ◌∷◌, ◌++◌, Contains, length, map}
 use Rattle.seq_model.specs.Contacts.{IsContact, points_of}
-use Rattle.seq_model.specs.Sides.{AreSides}
+use Rattle.seq_model.specs.Sides.{Side, AreSides}
 use Rattle.seq_model.specs.Systems.{system, Contradiction}
 use Rattle.seq_model.specs.declared.job.Job.{Job}
 use Rattle.seq_model.specs.declared.tree.Choice.{Choice}
@@ -35,27 +36,35 @@ IsCycle R (a ∷ objects) = (1 ≤ length objects) × IsRing R a (a ∷ objects)
 abbrev pub also : List Choice → Choice → List Choice
 also path choice = path ++ choice ∷ []
 
+-- after these choices a side may be chosen where its contact exists, it is one of the contact's sides, and their order is chosen
+abbrev pub MayFollow : Job → List Choice → Choice → Type 0
+MayFollow job path (Choices.Before i j) = Unit {0}
+MayFollow job path (Choices.Side contact dir) = IsContact job contact × Side (points_of job contact) dir × Contains path (Choices.Before contact.i contact.j)
+
+-- each of the choices may follow the path and those before it
+abbrev pub Follow : Job → List Choice → List Choice → Type 0
+Follow job path [] = Unit {0}
+Follow job path (choice ∷ choices) = MayFollow job path choice × Follow job (also path choice) choices
+
+abbrev pub IsPath : Job → List Choice → Type 0
+IsPath job path = Follow job [] path
+
 abbrev pub AreChildren : Job → List Choice → Node → List (List Choice) → Type 0
 AreChildren job path (Nodes.Order i j) paths = paths ≡ also path (Choices.Before i j) ∷ also path (Choices.Before j i) ∷ []
 AreChildren job path (Nodes.Side contact children) paths =
     (dirs : List Dir) × AreSides (points_of job contact) dirs × (children ≡ length dirs) × (paths ≡ map (λ dir. also path (Choices.Side contact dir)) dirs)
-AreChildren job path (Nodes.Bound mults) paths = paths ≡ []
-AreChildren job path (Nodes.Cycle objects) paths = paths ≡ []
-AreChildren job path Nodes.Pending paths = paths ≡ []
+AreChildren job path leaf paths = paths ≡ []
 
-abbrev pub IsSound : Job → ℕ → List Choice → Node → Type 0
-IsSound job e path (Nodes.Bound mults) = Contradiction (system job e path) mults
-IsSound job e path (Nodes.Cycle objects) = IsCycle (λ a b. Contains path (Choices.Before a b)) objects
-IsSound job e path (Nodes.Order i j) = (i < j) × (j < length job.objects)
-IsSound job e path (Nodes.Side contact children) = IsContact job contact × Contains path (Choices.Before contact.i contact.j)
-IsSound job e path Nodes.Pending = Unit {0}
+abbrev pub IsSoundNode : Job → ℕ → List Choice → Node → Type 0
+IsSoundNode job e path (Nodes.Bound mults) = Contradiction (system job e path) mults
+IsSoundNode job e path (Nodes.Cycle objects) = IsCycle (λ a b. Contains path (Choices.Before a b)) objects
+IsSoundNode job e path (Nodes.Order i j) = (i < j) × (j < length job.objects)
+IsSoundNode job e path (Nodes.Side contact children) = IsContact job contact × Contains path (Choices.Before contact.i contact.j)
+IsSoundNode job e path Nodes.Pending = Unit {0}
 
 abbrev pub IsClosed : Node → Type 0
-IsClosed (Nodes.Order i j) = Unit {0}
-IsClosed (Nodes.Side contact children) = Unit {0}
-IsClosed (Nodes.Bound mults) = Unit {0}
-IsClosed (Nodes.Cycle objects) = Unit {0}
 IsClosed Nodes.Pending = ⊥
+IsClosed node = Unit {0}
 
 abbrev pub Reads : Job → (List Choice → Node → Type 0) → List (List Choice) → List Node → List (List Choice) → Type 0
 Reads job Good todo [] left = todo ≡ left
@@ -67,4 +76,4 @@ abbrev pub IsTree : Job → (List Choice → Node → Type 0) → List Choice �
 IsTree job Good path nodes = Reads job Good (path ∷ []) nodes []
 
 abbrev pub Refutes : Job → ℕ → List Choice → List Node → Type 0
-Refutes job e path nodes = IsTree job (λ at node. IsSound job e at node × IsClosed node) path nodes
+Refutes job e path nodes = IsTree job (λ at node. IsSoundNode job e at node × IsClosed node) path nodes

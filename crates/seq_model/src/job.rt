@@ -1,4 +1,6 @@
-ghost use Rattle.seq_model.specs.Soundness.{AreSound};
+ghost use Rattle.std.proofs.Props.{props};
+ghost use Rattle.seq_model.specs.OneProof.{StartsLeast-prop, TurnsLeft-prop};
+ghost use Rattle.seq_model.specs.Soundness.{AreSoundObjects};
 
 use crate::{Printer, Spot};
 use owned_lists::{Items, Text};
@@ -29,5 +31,5 @@ pub struct Object {
 pub struct Job {
     pub printer: Printer,
     pub objects: Items<Object>,
-    pub ghost sound: { AreSound objects },
+    pub ghost sound: { AreSoundObjects objects } by { Prim.hlevel (props, StartsLeast-prop, TurnsLeft-prop) },
 }

@@ -6,14 +6,14 @@
 //!
 //! What a reader of the project has to believe stands in `specs/`, one module for each subject: `Bands`
 //! (the corner points of a band), `Outlines` (its spots, and inner points), `Plates` (the region of an
-//! extent) and `Scenes` (collisions, and when a plan is valid); then `Soundness` and `Jobs`, `Contacts`, `Sides`,
-//! `Systems`, `Trees`, `Splits`, `Budgets`, `Dictionaries` and `Walks`, for the search and its certificates. The only
-//! call here is `region`; `laws` has two laws over the definitions.
+//! extent) and `Scenes` (collisions, and when a plan is valid); then `Corners`, `Soundness` and `Jobs`, `Contacts`,
+//! `Sides`, `Systems`, `Trees`, `Splits` and `Budgets`, for the search and its certificates. The only call here is
+//! `region`. Laws over the definitions stand in `model_laws`, the worked examples in `model_examples`, and the forms
+//! of linear rows in `row_walks`.
 #![tactic(auto)]
 
 mod extent;
 mod job;
-pub mod laws;
 mod mesh;
 mod plan;
 mod plate;

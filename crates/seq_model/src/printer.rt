@@ -1,4 +1,6 @@
+ghost use Rattle.std.proofs.Props.{props};
 ghost use Rattle.seq_model.specs.Bounds.{IsPrinter};
+ghost use Rattle.seq_model.specs.OneProof.{StartsLeast-prop, TurnsLeft-prop};
 ghost use Rattle.seq_model.specs.Parts.{AreParts};
 
 use owned_lists::{Items, Text};
@@ -32,5 +34,5 @@ pub struct Printer {
     pub grid: u32,
     pub parts: Items<Part>,
     pub ghost ranged: { IsPrinter grain width depth step margin grid },
-    pub ghost parts_are: { AreParts parts },
+    pub ghost parts_are: { AreParts parts } by { Prim.hlevel (props, StartsLeast-prop, TurnsLeft-prop) },
 }

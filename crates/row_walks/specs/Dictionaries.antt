@@ -5,7 +5,7 @@
 --   Form vars rows basis     the form of the basis: d and, for each basic variable, its constant and entries
 --   line_of z basis lines    the line of a basic variable
 --   WideAt vars rows basis z the basis has a form, z is in it, and d or an entry of its line is 2^62 or more in size
-use Rattle.std.specs.Prelude.{◌≡◌, ℕ, suc, ◌+◌, ◌-◌, ◌^◌, ◌<◌, ◌≤◌, List, [], ◌∷◌, ℤ, pos, ◌≤ℤ◌, All, length, map, filter, replicate, slice_set, Option, Some, None, Bool, ◌||◌, not, nat_eq, nat_lt, nat_le, if◌then◌else◌, IsTrue, unsigned_abs, false}
+use Rattle.std.specs.Prelude.{◌≡◌, ℕ, suc, ◌+◌, ◌-◌, ◌^◌, ◌<◌, List, [], ◌∷◌, ℤ, pos, ◌≤ℤ◌, All, length, map, filter, replicate, slice_set, Option, Some, None, Bool, ◌||◌, not, nat_eq, nat_lt, nat_le, if◌then◌else◌, IsTrue, unsigned_abs, false}
 use Rattle.std.specs.List.{list_any, range_with_len}
 use Rattle.std.specs.Int.{◌∣◌}
 use Rattle.integer_laws.specs.Vectors.{plus, scale}

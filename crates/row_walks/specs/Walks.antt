@@ -7,7 +7,7 @@
 use Rattle.std.specs.Prelude.{◌≡◌, ℕ, ◌+◌, ◌≤◌, List, [], ◌∷◌, ◌++◌, ℤ, pos, length, filter, slice_get, Option, Some, None, Bool, ◌&&◌, ◌||◌, not, nat_eq, if◌then◌else◌, ◌⊎◌, false}
 use Rattle.std.specs.List.{range_with_len}
 use Rattle.std.specs.Int.Signed.{lt_z}
-use Rattle.seq_model.specs.Dictionaries.{is_in, free_of, line_of, Form, WideAt}
+use Rattle.row_walks.specs.Dictionaries.{is_in, free_of, line_of, Form, WideAt}
 use Rattle.seq_model.specs.Systems.{Row}
 
 abbrev pub has_negative_constant : List ℤ → Bool

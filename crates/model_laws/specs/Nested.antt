@@ -1,11 +1,21 @@
 -- Regions are nested.
+--
+--   LiesWithin inner outer   a region lies in another, edges included
+--   nested                   the region of a smaller extent lies in that of a larger one
 use Rattle.std.proofs.Common.{ℕ, ◌≤◌, ℤ, pos, ◌+ℤ◌, ◌-ℤ◌, ◌*ℤ◌, ◌≤ℤ◌, arith}
 use Rattle.std.proofs.lemmas.Int.{ints}
 use Rattle.integer_laws.specs.Order.{mul_le}
 use Rattle.integer_laws.specs.Quotients.{floor_le, floor_is}
 use Rattle.seq_model.specs.Plates.{share_of, half_left, region_of}
-use Rattle.seq_model.specs.Scenes.{LiesWithin}
+use Rattle.seq_model.specs.declared.plate.Region.{Region}
 use borrow.Author.Differences.{product_is}
+
+-- a region lies in another, edges included
+pub record LiesWithin (inner outer : Region) : Type 0 where
+  pub west : outer.low.x ≤ℤ inner.low.x
+  pub east : (inner.low.x +ℤ inner.w) ≤ℤ (outer.low.x +ℤ outer.w)
+  pub south : outer.low.y ≤ℤ inner.low.y
+  pub north : (inner.low.y +ℤ inner.h) ≤ℤ (outer.low.y +ℤ outer.h)
 
 share_grows : (size : ℤ) (grid e f : ℕ) → pos 1 ≤ℤ size → 1 ≤ grid → e ≤ f → share_of size grid e ≤ℤ share_of size grid f
 share_grows size grid e f p g h =

@@ -5,7 +5,7 @@ use Rattle.std.proofs.lemmas.List.Elements.{All-head, All-tail, All-get_or}
 use Rattle.integer_laws.specs.Order.{mul_nonneg, le_from, add_le, mul_le, mul_lt}
 use Rattle.integer_laws.specs.Ring.{expand}
 use Rattle.integer_laws.specs.Vectors.{dot, dot-plus, dot-scale}
-use Rattle.seq_model.specs.Systems.{Row, row_value, Meets, no_row, row_at, sum_constant, sum_coefficients, IsTaken, Contradiction}
+use Rattle.seq_model.specs.Systems.{Row, row_value, MeetsRows, no_row, row_at, sum_constant, sum_coefficients, IsTaken, Contradiction}
 use Rattle.seq_model.specs.declared.tree.Mult.{Mult}
 
 -- a vector with no positive entry has no positive product with one that has no negative entry
@@ -27,7 +27,7 @@ sum_holds rows d u h (m ∷ mults) k =
     let rest = sum_holds rows d u h mults (All-tail (IsTaken rows) m mults k) in
     le_from (add_le first rest) (simp (dot-plus, dot-scale, expand) (omega (arith, ints)))
 
-pub no_point : (rows : List Row) (mults : List Mult) → Contradiction rows mults → (d : ℤ) (u : List ℤ) → Meets rows d u → ⊥
+pub no_point : (rows : List Row) (mults : List Mult) → Contradiction rows mults → (d : ℤ) (u : List ℤ) → MeetsRows rows d u → ⊥
 no_point rows mults c d u m =
     let held = sum_holds rows d u m.each mults c.each in
     let low = dot_not_positive (sum_coefficients rows mults) u c.coefficients m.coordinates in

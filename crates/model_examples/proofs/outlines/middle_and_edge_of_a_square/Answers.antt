@@ -1,0 +1,8 @@
+use Rattle.model_examples.proofs.CubeLaws.{middle, edge}
+use Rattle.model_examples.proofs.outlines.middle_and_edge_of_a_square.Goals as goal
+
+pub returns-clause-middle : goal.returns-clause-middle
+returns-clause-middle c = middle
+
+pub returns-clause-edge : goal.returns-clause-edge
+returns-clause-edge c = edge

@@ -1,0 +1,4 @@
+pub mod Cubes
+pub mod Deciding
+pub mod Jobs
+pub mod Rows

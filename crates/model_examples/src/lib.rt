@@ -1,0 +1,12 @@
+//! The worked examples of the definitions.
+//!
+//! Each call does nothing, and its contract says what the definitions of `seq_model` and `row_walks` mean at numbers that
+//! were worked out by hand: which points are inner, when two cubes collide, the system of a path, a tree that refutes an
+//! extent, a walk of bases. `specs/Cubes.antt` and `specs/Jobs.antt` have the cubes, the wedges, their printer and their jobs.
+//!
+//! Nothing stands on this crate. It is here so that a definition that says something else than was meant isn't proved.
+#![tactic(auto)]
+
+pub mod outlines;
+pub mod pairs;
+pub mod systems;

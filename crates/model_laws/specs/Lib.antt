@@ -1,0 +1,2 @@
+pub mod Farkas
+pub mod Nested
