@@ -1,10 +1,12 @@
 -- Heights in bands: their bounds and their order, and when zones meet.
-use Rattle.std.proofs.Common.{◌≡◌, ◌≤◌, ℕ, ◌+◌, ◌-◌, max, Option, Some, None, MatchOption, refl, ℤ, pos, ◌*ℤ◌, ◌≤ℤ◌, ◌<ℤ◌, arith}
+use Rattle.std.proofs.Common.{◌≡◌, ◌≤◌, ℕ, ◌+◌, ◌-◌, max, Bool, true, ◌&&◌, nat_le, Option, Some, None, MatchOption, refl, ℤ, pos, ◌*ℤ◌, ◌≤ℤ◌, ◌<ℤ◌, arith}
 use Rattle.std.proofs.lemmas.Int.{ints}
+use Rattle.std.proofs.lemmas.Bool.{and_parts}
+use Rattle.std.proofs.lemmas.Bool.Decides.{nat_tests}
 use Rattle.std.specs.Option.{ForSome}
 use Rattle.integer_laws.specs.Order.{mul_le}
 use Rattle.integer_laws.specs.Quotients.{floor, IsFloor, IsCeil, floor_is, floor_le, floor_le_ceil, least_quotient}
-use Rattle.seq_model.specs.Contacts.{ZonesMeet}
+use Rattle.seq_model.specs.Contacts.{ZonesMeet, reaches_to}
 use Rattle.seq_model.specs.declared.job.Zone.{Zone}
 use Rattle.seq_model.specs.declared.printer.Part.{Part}
 use Rattle.printer_envelopes.specs.Bands.{first_band, last_band, SomeBandsMeet}
@@ -64,6 +66,23 @@ some_bands earlier later part (Some hi) e a b order low high =
       meets = record { from_low = omega (arith, rises); to_high = rw e (omega (arith, rises)) };
     }
 
+-- the two tests of zones that meet
+record Tests (a b : ℕ) (q : Bool) : Type 0 where
+  low : a ≤ b
+  high : q ≡ true
+
+tests : (a b : ℕ) (q : Bool) → (nat_le a b && q) ≡ true → Tests a b q
+tests a b q h =
+    let two = and_parts (nat_le a b) q h in
+    let first = two.0 in
+    record { low = grind (arith, nat_tests); high = two.1 }
+
+reaches : (o : Option ℕ) (last first : ℕ) → reaches_to o last first ≡ true → MatchOption o (Unit {0}) (λ hi. first ≤ last + hi)
+reaches None last first h = tt
+reaches (Some hi) last first h = grind (arith, nat_tests)
+
 pub where_zones_meet : (earlier later : Zone) (part : Part) → earlier.first ≤ earlier.last → later.first ≤ later.last → ForSome part.hi (λ hi. part.lo ≤ hi)
     → ZonesMeet earlier part later → SomeBandsMeet earlier part later
-where_zones_meet earlier later part a b order meet = some_bands earlier later part part.hi refl a b order meet.0 meet.1
+where_zones_meet earlier later part a b order meet =
+    let t = tests (later.first + part.lo) earlier.last (reaches_to part.hi later.last earlier.first) meet in
+    some_bands earlier later part part.hi refl a b order t.low (reaches part.hi later.last earlier.first t.high)

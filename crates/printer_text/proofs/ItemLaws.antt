@@ -6,7 +6,7 @@ use Rattle.toml.specs.View.{view, items_view}
 use Rattle.toml.specs.declared.value.Value.{Value}
 use Rattle.toml.proofs.Views.{items_view-drop}
 use Rattle.printer_text.specs.declared.values.Cause.{Cause}
-use Rattle.printer_text.specs.Values.{pair_of, pair_in, grains_in, pairs_behind}
+use Rattle.printer_text.specs.Values.{pair_of, pair_in, grains_in, pairs_behind, count}
 
 pub items_more : (vs : List Value) (i : ℕ) (d : Value) → i < length vs → items_view (drop i vs) ≡ item (view (get_or vs i d)) (items_view (drop (i + 1) vs))
 items_more vs i d h = items_view-drop vs i d h
@@ -28,3 +28,7 @@ pairs_stop grain low high done vs i d why h e = rw (items_more vs i d h, ← e) 
 pub pairs_end : (grain low high : ℤ) (done : List Spot) (vs : List Value) (i : ℕ) → length vs ≤ i
     → pairs_behind grain low high done (items_view (drop i vs)) ≡ Ok done
 pairs_end grain low high done vs i h = rw (drop_end vs i h) refl
+
+pub count_is : (vs : List Value) → count (items_view vs) ≡ length vs
+count_is [] = refl
+count_is (v ∷ vs) = let e = count_is vs in omega arith

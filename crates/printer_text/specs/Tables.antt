@@ -39,14 +39,6 @@ pub record Said : Type 0 where
 abbrev pub about : Sizes → Said
 about sizes = record { sizes = sizes; listed = no_items; name = []; from = pos 0; to = None; bar = None; corners = []; low = pos 0; high = pos 0 }
 
--- what the whole top table says, and the first keys of a part
-abbrev pub said_top : Sizes → Option Items → Said
-said_top sizes None = about sizes
-said_top sizes (Some listed) = record (about sizes) { listed = listed }
-
-abbrev pub said_first : Sizes → List ℕ → Heights → Said
-said_first sizes text h = record (about sizes) { name = text; from = h.from; to = h.to; bar = h.bar }
-
 abbrev pub nothing : Said
 nothing = about (record { grain = pos 0; width = pos 0; depth = pos 0; step = pos 0; margin = pos 0; grid = 0 })
 
@@ -104,6 +96,13 @@ with_key (tables most) k listed s = record s { listed = listed }
 abbrev pub with_key_if : (rule : Rule) → Key → Option (Says rule) → Said → Said
 with_key_if rule k (Some x) s = with_key rule k x s
 with_key_if rule k None s = s
+
+-- what the whole top table says, and the first keys of a part
+abbrev pub said_top : Sizes → Option Items → Said
+said_top sizes listed = with_key_if (tables 12) key.Part listed (about sizes)
+
+abbrev pub said_first : Sizes → List ℕ → Heights → Said
+said_first sizes text h = record (about sizes) { name = text; from = h.from; to = h.to; bar = h.bar }
 
 abbrev pub reading : List Row → Members → Said → Result Said Bad
 reading [] t s = Ok s

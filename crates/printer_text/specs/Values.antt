@@ -8,11 +8,12 @@
 --                           the value of each kind, in its range and on its lattice
 --   key_at k rule t         the value at a key of the table, by a rule; the key has to be there
 --   key_if k rule t         the same for a key that may be absent
-use Rattle.std.specs.Prelude.{ℕ, ℤ, pos, neg_ℤ, ◌*ℤ◌, ◌+◌, ◌++◌, Bool, true, false, ◌&&◌, ◌||◌, List, [], ◌∷◌, length, Option, Some, None, is_some, Result, Ok, Err, if◌then◌else◌, int_le, int_rem, int_div, nat_le, ◌==◌, Float, codes}
-use Rattle.std.specs.Char.{is_ascii_alphanumeric}
+--   Stops r stop, StopsKey r unread    memory is wanting, or r is this refusal
+use Rattle.std.specs.Prelude.{◌≡◌, ℕ, ℤ, pos, neg_ℤ, ◌*ℤ◌, ◌+◌, ◌++◌, Bool, true, false, ◌&&◌, ◌||◌, List, [], ◌∷◌, length, Option, Some, None, is_some, Result, Ok, Err, if◌then◌else◌, int_le, int_rem, int_div, nat_le, Float, codes}
 use Rattle.std.specs.List.{list_all}
 use Rattle.std.specs.Str.{bytes_eq}
 use Rattle.decimal_lengths.specs.Computed as Decimals
+use Rattle.seq_model.specs.Parts.{is_name_byte}
 use Rattle.seq_model.specs.declared.printer.Spot.{Spot}
 use Rattle.toml.specs.Data.{Data, Items, no_items, item, Members, as_integer, as_str, as_float, as_array, as_table, at, get_member}
 use Rattle.printer_text.specs.declared.Key.{Key}
@@ -20,6 +21,10 @@ use Rattle.printer_text.specs.declared.Key.TheVariants as key
 use Rattle.printer_text.specs.declared.values.Cause.{Cause}
 use Rattle.printer_text.specs.declared.values.Cause.TheVariants as cause
 use Rattle.printer_text.specs.declared.values.Bad.{Bad}
+use Rattle.printer_text.specs.declared.values.Stop.{Stop}
+use Rattle.printer_text.specs.declared.values.Stop.TheVariants as stop
+use Rattle.printer_text.specs.declared.keys.Unread.{Unread}
+use Rattle.printer_text.specs.declared.keys.Unread.TheVariants as unread
 
 abbrev pub after : {A B E : Type 0} → Result A E → (A → Result B E) → Result B E
 after (Ok x) next = next x
@@ -127,10 +132,6 @@ tables_from most (Some ds) = if are_tables ds then if nat_le (count ds) most the
 unfoldable pub tables_in : ℕ → Data → Result Items Cause
 tables_in most d = tables_from most (as_array d)
 
--- an ASCII letter, a digit, `_` or `-`
-abbrev pub is_name_byte : ℕ → Bool
-is_name_byte c = is_ascii_alphanumeric c || (c == 95 || c == 45)
-
 abbrev pub is_name : ℕ → ℕ → List ℕ → Bool
 is_name least most s = nat_le least (length s) && (nat_le (length s) most && list_all is_name_byte s)
 
@@ -186,3 +187,15 @@ key_at k rule t = blamed k (present rule (get_member (key_name k) t))
 
 unfoldable pub key_if : {A : Type 0} → Key → (Data → Result A Cause) → Members → Result (Option A) Bad
 key_if k rule t = blamed k (if_present rule (get_member (key_name k) t))
+
+-- ---- want of memory
+
+-- memory is wanting, or this is the cause
+abbrev pub Stops : {A : Type 0} → Result A Cause → Stop → Type 0
+Stops r stop.NoMemory = Unit {0}
+Stops r (stop.Cause why) = r ≡ Err why
+
+-- memory is wanting, or this is the refusal
+abbrev pub StopsKey : {A : Type 0} → Result A Bad → Unread → Type 0
+StopsKey r unread.NoMemory = Unit {0}
+StopsKey r (unread.Bad bad) = r ≡ Err bad

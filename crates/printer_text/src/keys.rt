@@ -5,8 +5,7 @@ ghost use Rattle.std.specs.Result.{result_map_both};
 ghost use Rattle.toml.specs.Data.{get_member};
 ghost use Rattle.toml.specs.View.{view, table_view, items_view};
 ghost use Rattle.printer_text.specs.Tables.{is_named, first_other};
-ghost use Rattle.printer_text.specs.Values.{key_name, key_at, key_if, integer_in, length_in, grains_in, pair_in, corners_in, tables_in, name_in, axis_in};
-ghost use Rattle.printer_text.specs.declared.values.Bad.{Bad};
+ghost use Rattle.printer_text.specs.Values.{key_name, key_at, key_if, integer_in, length_in, grains_in, pair_in, corners_in, tables_in, name_in, axis_in, StopsKey};
 
 use crate::values::{
     Bad, Cause, Stop, axis_in, corners_in, grains_in, integer_in, length_in, name_in, pair_in,
@@ -119,7 +118,7 @@ pub fn corners_at(
 ) -> Result<Vec<Spot>, Unread>
     requires { pos 1 ≤ℤ grain }
     ensures ok { IfOk result (λ spots. key_at key (corners_in 1 32 grain low high) (table_view table.now) ≡ Ok spots.items) }
-    ensures err { IfErr result (λ e. (e ≡ Unread.NoMemory) ⊎ ((bad : Bad) × (e ≡ Unread.Bad bad) × (key_at key (corners_in 1 32 grain low high) (table_view table.now) ≡ Err bad))) }
+    ensures err { IfErr result (StopsKey (key_at key (corners_in 1 32 grain low high) (table_view table.now))) }
 {
     let value = match value_at(table, key) {
         Ok(value) => value,

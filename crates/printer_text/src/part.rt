@@ -8,7 +8,7 @@ ghost use Rattle.printer_text.specs.Keys.{part_keys, outline_keys};
 ghost use Rattle.printer_text.specs.Printers.{outline_in, part_in};
 ghost use Rattle.printer_text.specs.Tables.{reading, about, said_first, names, prn_of, first_other};
 ghost use Rattle.printer_text.specs.declared.top.Sizes.{Sizes};
-ghost use Rattle.printer_text.specs.declared.values.Bad.{Bad};
+ghost use Rattle.printer_text.specs.Values.{StopsKey};
 
 use crate::keys::{
     Unread, axis_if, corners_at, first_other, grains_at, length_at, length_if, name_at,
@@ -79,7 +79,7 @@ fn bar_outline(
 ) -> Result<Vec<Spot>, Unread>
     requires { IsPrinter sizes.now.grain sizes.now.width sizes.now.depth sizes.now.step sizes.now.margin sizes.now.grid }
     ensures ok { IfOk result (λ spots. outline_in sizes.now (Some along_x) (table_view table.now) ≡ Ok spots.items) }
-    ensures err { IfErr result (λ e. (e ≡ Unread.NoMemory) ⊎ ((bad : Bad) × (e ≡ Unread.Bad bad) × (outline_in sizes.now (Some along_x) (table_view table.now) ≡ Err bad))) }
+    ensures err { IfErr result (StopsKey (outline_in sizes.now (Some along_x) (table_view table.now))) }
 {
     let grain = sizes.grain;
     let most = grains(grain, 100_000);
@@ -109,7 +109,7 @@ fn outline(
 ) -> Result<Vec<Spot>, Unread>
     requires { IsPrinter sizes.now.grain sizes.now.width sizes.now.depth sizes.now.step sizes.now.margin sizes.now.grid }
     ensures ok { IfOk result (λ spots. outline_in sizes.now bar (table_view table.now) ≡ Ok spots.items) }
-    ensures err { IfErr result (λ e. (e ≡ Unread.NoMemory) ⊎ ((bad : Bad) × (e ≡ Unread.Bad bad) × (outline_in sizes.now bar (table_view table.now) ≡ Err bad))) }
+    ensures err { IfErr result (StopsKey (outline_in sizes.now bar (table_view table.now))) }
 {
     let Some(along_x) = bar else {
         let grain = sizes.grain;

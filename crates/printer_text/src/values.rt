@@ -2,10 +2,11 @@
 
 ghost use Rattle.std.specs.Prelude.{◌≡◌, ◌≤ℤ◌, ◌<ℤ◌, ◌*ℤ◌, ◌⊎◌, pos, [], List, Some, None, Ok, Err, IfOk, IfErr, option_map, length, ◌≤◌};
 ghost use Rattle.std.specs.Result.{result_map_both};
+ghost use Rattle.std.specs.List.{list_all};
+ghost use Rattle.seq_model.specs.Parts.{is_name_byte};
 ghost use Rattle.seq_model.specs.declared.printer.Spot.{Spot};
 ghost use Rattle.toml.specs.View.{view, items_view};
-ghost use Rattle.printer_text.specs.Values.{within, on_lattice, millimetres, length_of, integer_in, length_in, grains_in, may_be_length, pair_of, pair_in, is_pair, are_pairs, are_tables, count, pairs_behind, corners_in, tables_in, is_name, name_in, axis_in};
-ghost use Rattle.printer_text.specs.declared.values.Cause.{Cause};
+ghost use Rattle.printer_text.specs.Values.{within, on_lattice, millimetres, length_of, integer_in, length_in, grains_in, may_be_length, pair_of, pair_in, is_pair, are_pairs, are_tables, count, pairs_behind, corners_in, tables_in, is_name, name_in, axis_in, Stops};
 
 use crate::Key;
 use decimal_lengths::read_um;
@@ -195,7 +196,7 @@ fn pairs(
 ) -> Result<Vec<Spot>, Stop>
     requires { pos 1 ≤ℤ grain }
     ensures ok { IfOk result (λ spots. pairs_behind grain low high [] (items_view values.now) ≡ Ok spots.items) }
-    ensures err { IfErr result (λ e. (e ≡ Stop.NoMemory) ⊎ ((why : Cause) × (e ≡ Stop.Cause why) × (pairs_behind grain low high [] (items_view values.now) ≡ Err why))) }
+    ensures err { IfErr result (Stops (pairs_behind grain low high [] (items_view values.now))) }
 {
     let mut spots = Vec::new(alloc);
     for value in values {
@@ -210,7 +211,15 @@ fn pairs(
     Ok(spots)
 }
 
+fn count(values: &[Value]) -> usize
+    ensures value { result ≡ count (items_view values.now) }
+    ensures len { result ≡ length values.now }
+{
+    values.len()
+}
+
 /// The spots of an array of `least` to `most` pairs of lengths.
+#[tactic(auto, unfolding(crate::specs::Values::corners_in))]
 pub fn corners_in(
     alloc: Global,
     least: usize,
@@ -222,7 +231,7 @@ pub fn corners_in(
 ) -> Result<Vec<Spot>, Stop>
     requires { pos 1 ≤ℤ grain }
     ensures ok { IfOk result (λ spots. corners_in least most grain low high (view value.now) ≡ Ok spots.items) }
-    ensures err { IfErr result (λ e. (e ≡ Stop.NoMemory) ⊎ ((why : Cause) × (e ≡ Stop.Cause why) × (corners_in least most grain low high (view value.now) ≡ Err why))) }
+    ensures err { IfErr result (Stops (corners_in least most grain low high (view value.now))) }
 {
     let Some(values) = value.as_array() else {
         return Err(Stop::Cause(Cause::Kind));
@@ -230,7 +239,11 @@ pub fn corners_in(
     if !are_pairs(values) {
         return Err(Stop::Cause(Cause::Kind));
     }
-    if values.len() < least || most < values.len() {
+    let count = count(values);
+    if count < least {
+        return Err(Stop::Cause(Cause::Range));
+    }
+    if most < count {
         return Err(Stop::Cause(Cause::Range));
     }
     pairs(alloc, grain, low, high, values)
@@ -248,20 +261,34 @@ pub fn tables_in(most: usize, value: &Value) -> Result<&[Value], Cause>
     if !are_tables(values) {
         return Err(Cause::Kind);
     }
-    if values.len() > most {
+    if count(values) > most {
         return Err(Cause::TooMany);
     }
     Ok(values)
 }
 
+fn is_name_byte(byte: u8) -> bool
+    ensures { result ≡ is_name_byte byte }
+{
+    byte.is_ascii_alphanumeric() || byte == b'_' || byte == b'-'
+}
+
+fn are_name_bytes(bytes: &[u8]) -> bool
+    ensures { result ≡ list_all is_name_byte bytes.now }
+{
+    bytes.iter().all(|byte| is_name_byte(*byte))
+}
+
 fn is_name(least: usize, most: usize, text: &str) -> bool
     ensures { result ≡ is_name least most text.now }
 {
-    if text.len() < least || most < text.len() {
+    if text.len() < least {
         return false;
     }
-    let bytes = text.as_bytes();
-    bytes.iter().all(|byte| byte.is_ascii_alphanumeric() || *byte == b'_' || *byte == b'-')
+    if most < text.len() {
+        return false;
+    }
+    are_name_bytes(text.as_bytes())
 }
 
 /// A text of `least` to `most` bytes of a name.
