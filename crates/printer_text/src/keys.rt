@@ -1,11 +1,12 @@
 //! A key of a table: whether it is there, and its value.
 
-ghost use Rattle.std.specs.Prelude.{◌≡◌, ◌≤◌, ◌≤ℤ◌, ◌*ℤ◌, ◌⊎◌, pos, Some, None, Ok, Err, IfOk, IfErr, IfSome, option_map, length};
+ghost use Rattle.std.specs.Prelude.{◌≡◌, ◌≤◌, ◌≤ℤ◌, ◌*ℤ◌, ◌⊎◌, pos, Some, None, Ok, Err, IfOk, IfErr, IfSome, IsTrue, option_map, length};
 ghost use Rattle.std.specs.Result.{result_map_both};
 ghost use Rattle.toml.specs.Data.{get_member};
 ghost use Rattle.toml.specs.View.{view, table_view, items_view};
 ghost use Rattle.printer_text.specs.Tables.{is_named, first_other};
-ghost use Rattle.printer_text.specs.Values.{key_name, key_at, key_if, integer_in, length_in, grains_in, pair_in, corners_in, tables_in, name_in, axis_in, StopsKey};
+ghost use Rattle.printer_text.specs.Outlines.{IsGrain, IsFewGrains};
+ghost use Rattle.printer_text.specs.Values.{key_name, key_at, key_if, integer_in, length_in, grains_in, pair_in, corners_in, tables_in, is_name, name_in, axis_in, StopsKey};
 
 use crate::values::{
     Bad, Cause, Stop, axis_in, corners_in, grains_in, integer_in, length_in, name_in, pair_in,
@@ -81,32 +82,57 @@ pub fn length_if(table: &Table, key: Key, low: i64, high: i64) -> Result<Option<
     }
 }
 
-/// A length at a key, in grains; the range is in µm.
+// So many grains, in µm.
+fn grains(grain: i64, count: i64) -> i64
+    requires grain { IsGrain grain }
+    requires count { IsFewGrains count }
+    ensures { result ≡ grain *ℤ count }
+{
+    grain * count
+}
+
+/// A length at a key, and its range, in grains.
 #[tactic(auto, unfolding(crate::specs::Values::key_at))]
 pub fn grains_at(table: &Table, key: Key, grain: i64, low: i64, high: i64) -> Result<i64, Bad>
-    requires { pos 1 ≤ℤ grain }
-    ensures value { result ≡ key_at key (grains_in grain low high) (table_view table.now) }
-    ensures bounds { IfOk result (λ count. (low ≤ℤ (grain *ℤ count)) × ((grain *ℤ count) ≤ℤ high)) }
+    requires grain { IsGrain grain }
+    requires low { IsFewGrains low }
+    requires high { IsFewGrains high }
+    ensures value { result ≡ key_at key (grains_in grain (grain *ℤ low) (grain *ℤ high)) (table_view table.now) }
+    ensures bounds { IfOk result (λ n. (low ≤ℤ n) × (n ≤ℤ high)) }
 {
-    match grains_in(grain, low, high, value_at(table, key)?) {
+    match grains_in(
+        grain,
+        grains(grain, low),
+        grains(grain, high),
+        value_at(table, key)?,
+    ) {
         Ok(count) => Ok(count),
         Err(cause) => Err(Bad { key, cause }),
     }
 }
 
-/// Two lengths at a key, in grains; the range is in µm.
+/// Two lengths at a key, and their range, in grains.
 #[tactic(auto, unfolding(crate::specs::Values::key_at))]
 pub fn pair_at(table: &Table, key: Key, grain: i64, low: i64, high: i64) -> Result<Spot, Bad>
-    requires { pos 1 ≤ℤ grain }
-    ensures { result ≡ key_at key (pair_in grain low high) (table_view table.now) }
+    requires grain { IsGrain grain }
+    requires low { IsFewGrains low }
+    requires high { IsFewGrains high }
+    ensures value { result ≡ key_at key (pair_in grain (grain *ℤ low) (grain *ℤ high)) (table_view table.now) }
+    ensures x { IfOk result (λ pair. (low ≤ℤ pair.x) × (pair.x ≤ℤ high)) }
+    ensures y { IfOk result (λ pair. (low ≤ℤ pair.y) × (pair.y ≤ℤ high)) }
 {
-    match pair_in(grain, low, high, value_at(table, key)?) {
+    match pair_in(
+        grain,
+        grains(grain, low),
+        grains(grain, high),
+        value_at(table, key)?,
+    ) {
         Ok(pair) => Ok(pair),
         Err(cause) => Err(Bad { key, cause }),
     }
 }
 
-/// The corners at a key, in grains; the range is in µm.
+/// The corners at a key, 1 to 32 of them, and the range of their coordinates, in grains.
 #[tactic(auto, unfolding(crate::specs::Values::key_at))]
 pub fn corners_at(
     alloc: Global,
@@ -116,15 +142,25 @@ pub fn corners_at(
     low: i64,
     high: i64,
 ) -> Result<Vec<Spot>, Unread>
-    requires { pos 1 ≤ℤ grain }
-    ensures ok { IfOk result (λ spots. key_at key (corners_in 1 32 grain low high) (table_view table.now) ≡ Ok spots.items) }
-    ensures err { IfErr result (StopsKey (key_at key (corners_in 1 32 grain low high) (table_view table.now))) }
+    requires grain { IsGrain grain }
+    requires low { IsFewGrains low }
+    requires high { IsFewGrains high }
+    ensures ok { IfOk result (λ spots. key_at key (corners_in 1 32 grain (grain *ℤ low) (grain *ℤ high)) (table_view table.now) ≡ Ok spots.items) }
+    ensures err { IfErr result (StopsKey (key_at key (corners_in 1 32 grain (grain *ℤ low) (grain *ℤ high)) (table_view table.now))) }
 {
     let value = match value_at(table, key) {
         Ok(value) => value,
         Err(bad) => return Err(Unread::Bad(bad)),
     };
-    match corners_in(alloc, 1, 32, grain, low, high, value) {
+    match corners_in(
+        alloc,
+        1,
+        32,
+        grain,
+        grains(grain, low),
+        grains(grain, high),
+        value,
+    ) {
         Ok(spots) => Ok(spots),
         Err(Stop::NoMemory) => Err(Unread::NoMemory),
         Err(Stop::Cause(cause)) => Err(Unread::Bad(Bad { key, cause })),
@@ -149,7 +185,8 @@ pub fn tables_if(table: &Table, key: Key, most: usize) -> Result<Option<&[Value]
 /// A name at a key.
 #[tactic(auto, unfolding(crate::specs::Values::key_at))]
 pub fn name_at(table: &Table, key: Key, least: usize, most: usize) -> Result<&str, Bad>
-    ensures { result_map_both (λ text. text.now) (λ e. e) result ≡ key_at key (name_in least most) (table_view table.now) }
+    ensures value { result_map_both (λ text. text.now) (λ e. e) result ≡ key_at key (name_in least most) (table_view table.now) }
+    ensures named { IfOk result (λ text. IsTrue (is_name least most text.now)) }
 {
     match name_in(least, most, value_at(table, key)?) {
         Ok(text) => Ok(text),

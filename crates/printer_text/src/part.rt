@@ -1,10 +1,10 @@
 //! A listed part.
 
 ghost use Rattle.std.specs.Prelude.{◌≡◌, ◌≤ℤ◌, ◌≤◌, ◌⊎◌, pos, Some, None, Ok, Err, IfOk, IfErr, IfSome, All, ◌++◌, option_map};
-ghost use Rattle.seq_model.specs.Bounds.{IsPrinter};
-ghost use Rattle.seq_model.specs.Parts.{IsNearSpot, IsSoundPart};
+ghost use Rattle.seq_model.specs.Parts.{IsPartName};
 ghost use Rattle.toml.specs.View.{table_view};
 ghost use Rattle.printer_text.specs.Keys.{part_keys, outline_keys};
+ghost use Rattle.printer_text.specs.Outlines.{AreSizes, IsOutline, IsListedPart};
 ghost use Rattle.printer_text.specs.Printers.{outline_in, part_in};
 ghost use Rattle.printer_text.specs.Tables.{reading, about, said_first, names, prn_of, first_other};
 ghost use Rattle.printer_text.specs.declared.top.Sizes.{Sizes};
@@ -13,7 +13,7 @@ ghost use Rattle.printer_text.specs.Values.{StopsKey};
 use crate::keys::{
     Unread, axis_if, corners_at, first_other, grains_at, length_at, length_if, name_at,
 };
-use crate::top::{Sizes, grains};
+use crate::top::Sizes;
 use crate::values::{Bad, Cause};
 use crate::{Key, Prn};
 use owned_lists::{Items, Text};
@@ -58,6 +58,7 @@ pub fn unknown(alloc: Global, text: &str, number: u32) -> Prn
 // The name and the heights.
 fn read_first(table: &Table) -> Result<(&str, Heights), Bad>
     ensures ok { IfOk result (λ first. (sizes : Sizes) → reading part_keys (table_view table.now) (about sizes) ≡ Ok (said_first sizes first.0.now first.1)) }
+    ensures name { IfOk result (λ first. IsPartName first.0.now) }
     ensures from_low { IfOk result (λ first. pos 0 ≤ℤ first.1.from) }
     ensures from_high { IfOk result (λ first. first.1.from ≤ℤ pos 10_000_000) }
     ensures to { IfOk result (λ first. IfSome first.1.to (λ to. (first.1.from ≤ℤ to) × (to ≤ℤ pos 10_000_000))) }
@@ -77,17 +78,16 @@ fn bar_outline(
     sizes: &Sizes,
     along_x: bool,
 ) -> Result<Vec<Spot>, Unread>
-    requires { IsPrinter sizes.now.grain sizes.now.width sizes.now.depth sizes.now.step sizes.now.margin sizes.now.grid }
+    requires { AreSizes sizes.now }
+    ensures outline { IfOk result (λ spots. IsOutline spots.items) }
     ensures ok { IfOk result (λ spots. outline_in sizes.now (Some along_x) (table_view table.now) ≡ Ok spots.items) }
     ensures err { IfErr result (StopsKey (outline_in sizes.now (Some along_x) (table_view table.now))) }
 {
-    let grain = sizes.grain;
-    let most = grains(grain, 100_000);
-    let low = match grains_at(table, Key::Low, grain, grains(grain, -100_000), most) {
+    let low = match grains_at(table, Key::Low, sizes.grain, -100_000, 100_000) {
         Ok(low) => low,
         Err(bad) => return Err(Unread::Bad(bad)),
     };
-    let high = match grains_at(table, Key::High, grain, grains(grain, low), most) {
+    let high = match grains_at(table, Key::High, sizes.grain, low, 100_000) {
         Ok(high) => high,
         Err(bad) => return Err(Unread::Bad(bad)),
     };
@@ -107,22 +107,15 @@ fn outline(
     sizes: &Sizes,
     bar: Option<bool>,
 ) -> Result<Vec<Spot>, Unread>
-    requires { IsPrinter sizes.now.grain sizes.now.width sizes.now.depth sizes.now.step sizes.now.margin sizes.now.grid }
+    requires { AreSizes sizes.now }
+    ensures outline { IfOk result (λ spots. IsOutline spots.items) }
     ensures ok { IfOk result (λ spots. outline_in sizes.now bar (table_view table.now) ≡ Ok spots.items) }
     ensures err { IfErr result (StopsKey (outline_in sizes.now bar (table_view table.now))) }
 {
-    let Some(along_x) = bar else {
-        let grain = sizes.grain;
-        return corners_at(
-            alloc,
-            table,
-            Key::Corners,
-            grain,
-            grains(grain, -100_000),
-            grains(grain, 100_000),
-        );
-    };
-    bar_outline(alloc, table, sizes, along_x)
+    match bar {
+        None => corners_at(alloc, table, Key::Corners, sizes.grain, -100_000, 100_000),
+        Some(along_x) => bar_outline(alloc, table, sizes, along_x),
+    }
 }
 
 // The first key that a part with this bar, or without one, may not have.
@@ -143,7 +136,8 @@ fn other_key(table: &Table, bar: Option<bool>) -> Option<&str>
 
 /// The part that the table of this number lists, with its corners as they are listed.
 pub fn read_part(alloc: Global, number: u32, table: &Table, sizes: &Sizes) -> Result<Part, Prn>
-    requires { IsPrinter sizes.now.grain sizes.now.width sizes.now.depth sizes.now.step sizes.now.margin sizes.now.grid }
+    requires { AreSizes sizes.now }
+    ensures listed { IfOk result IsListedPart }
     ensures ok { IfOk result (λ part. part_in number sizes.now (table_view table.now) ≡ Ok part) }
     ensures err { IfErr result (λ e. (e ≡ Prn.NoMemory) ⊎ (part_in number sizes.now (table_view table.now) ≡ Err e)) }
 {

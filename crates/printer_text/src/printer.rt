@@ -1,12 +1,12 @@
 //! The whole description.
 
 ghost use Rattle.std.specs.Prelude.{◌≡◌, ◌≤◌, ◌⊎◌, List, ℕ, [], ◌∷◌, Ok, Err, IfOk, IfErr, All, length, option_map};
-ghost use Rattle.seq_model.specs.Bounds.{IsPrinter};
 ghost use Rattle.seq_model.specs.Parts.{tip, AreParts};
 ghost use Rattle.seq_model.specs.Scenes.{Description, description_of};
 ghost use Rattle.seq_model.specs.declared.printer.Part.{Part};
 ghost use Rattle.toml.specs.View.{table_view, items_view};
 ghost use Rattle.printer_text.specs.Keys.{top_keys};
+ghost use Rattle.printer_text.specs.Outlines.{AreSizes, IsListedPart};
 ghost use Rattle.printer_text.specs.Printers.{parts_behind, description_in, description_with, DescribedBy, AreKept, PrinterOf, IsRefusedPrinter};
 ghost use Rattle.printer_text.specs.declared.Prn.{Prn};
 
@@ -37,7 +37,7 @@ fn tip(alloc: Global) -> Result<Part, AllocError>
 
 // The tip and the listed parts behind it, with their corners as they are listed.
 fn read_parts(alloc: Global, sizes: &Sizes, listed: &[Value]) -> Result<Vec<Part>, Prn>
-    requires sizes { IsPrinter sizes.now.grain sizes.now.width sizes.now.depth sizes.now.step sizes.now.margin sizes.now.grid }
+    requires sizes { AreSizes sizes.now }
     requires few { length listed.now ≤ 12 }
     ensures ok { IfOk result (λ parts. parts_behind 1 sizes.now (tip ∷ []) (items_view listed.now) ≡ Ok parts.items) }
     ensures err { IfErr result (λ e. (e ≡ Prn.NoMemory) ⊎ (parts_behind 1 sizes.now (tip ∷ []) (items_view listed.now) ≡ Err e)) }
@@ -82,7 +82,7 @@ fn kept_parts(alloc: Global, parts: Vec<Part>) -> Result<Items<Part>, NoMemory> 
 }
 
 fn printer_with(sizes: Sizes, parts: Items<Part>) -> Printer
-    requires sizes { IsPrinter sizes.grain sizes.width sizes.depth sizes.step sizes.margin sizes.grid }
+    requires sizes { AreSizes sizes }
     requires parts { AreParts parts }
     ensures { description_of result result.parts ≡ description_with sizes parts }
 {

@@ -1,9 +1,9 @@
 //! The top table.
 
 ghost use Rattle.std.specs.Prelude.{◌≡◌, ◌≤ℤ◌, ◌≤◌, ◌*ℤ◌, neg_ℤ, pos, Ok, Err, IfOk, IfErr, IfSome, option_map, length};
-ghost use Rattle.seq_model.specs.Bounds.{IsPrinter};
 ghost use Rattle.toml.specs.View.{table_view, items_view};
 ghost use Rattle.printer_text.specs.Keys.{top_keys};
+ghost use Rattle.printer_text.specs.Outlines.{AreSizes};
 ghost use Rattle.printer_text.specs.Tables.{reading, nothing, said_top};
 
 use crate::Key;
@@ -22,41 +22,18 @@ pub struct Sizes {
     pub grid: u32,
 }
 
-/// So many grains, in µm.
-pub fn grains(grain: i64, count: i64) -> i64
-    requires low { pos 10 ≤ℤ grain }
-    requires high { grain ≤ℤ pos 10_000 }
-    requires count_low { neg_ℤ (pos 100_000) ≤ℤ count }
-    requires count_high { count ≤ℤ pos 100_000 }
-    ensures { result ≡ grain *ℤ count }
-{
-    grain * count
-}
-
 /// What the keys of the top table say: the sizes, and the listed parts if there are any.
 pub fn read_top(table: &Table) -> Result<(Sizes, Option<&[Value]>), Bad>
     ensures ok { IfOk result (λ top. reading top_keys (table_view table.now) nothing ≡ Ok (said_top top.0 (option_map (λ values. items_view values.now) top.1))) }
-    ensures ranged { IfOk result (λ top. IsPrinter top.0.grain top.0.width top.0.depth top.0.step top.0.margin top.0.grid) }
+    ensures ranged { IfOk result (λ top. AreSizes top.0) }
     ensures few { IfOk result (λ top. IfSome top.1 (λ values. length values.now ≤ 12)) }
     ensures err { IfErr result (λ bad. reading top_keys (table_view table.now) nothing ≡ Err bad) }
 {
     let _format = integer_at(table, Key::Format, 1, 1)?;
     let grain = length_at(table, Key::Grain, 10, 10_000)?;
-    let plate = pair_at(
-        table,
-        Key::Plate,
-        grain,
-        grains(grain, 1),
-        grains(grain, 20_000),
-    )?;
+    let plate = pair_at(table, Key::Plate, grain, 1, 20_000)?;
     let step = length_at(table, Key::Step, 10, 100_000)?;
-    let margin = grains_at(
-        table,
-        Key::Margin,
-        grain,
-        grains(grain, 1),
-        grains(grain, 1_000),
-    )?;
+    let margin = grains_at(table, Key::Margin, grain, 1, 1_000)?;
     let grid = integer_at(table, Key::Grid, 1, 1_000)?;
     let listed = tables_if(table, Key::Part, 12)?;
     let sizes = Sizes {

@@ -1,6 +1,6 @@
 //! The value of a key: its kind, then a number that it spells, then its range, then its lattice.
 
-ghost use Rattle.std.specs.Prelude.{◌≡◌, ◌≤ℤ◌, ◌<ℤ◌, ◌*ℤ◌, ◌⊎◌, pos, [], List, Some, None, Ok, Err, IfOk, IfErr, option_map, length, ◌≤◌};
+ghost use Rattle.std.specs.Prelude.{◌≡◌, ◌≤ℤ◌, ◌<ℤ◌, ◌*ℤ◌, ◌⊎◌, pos, [], List, Some, None, Ok, Err, IfOk, IfErr, IsTrue, option_map, length, ◌≤◌};
 ghost use Rattle.std.specs.Result.{result_map_both};
 ghost use Rattle.std.specs.List.{list_all};
 ghost use Rattle.seq_model.specs.Parts.{is_name_byte};
@@ -131,7 +131,9 @@ fn may_be_length(value: &Value) -> bool
 /// Two lengths of a range in µm, as numbers of grains.
 pub fn pair_in(grain: i64, low: i64, high: i64, value: &Value) -> Result<Spot, Cause>
     requires { pos 1 ≤ℤ grain }
-    ensures { result ≡ pair_in grain low high (view value.now) }
+    ensures value { result ≡ pair_in grain low high (view value.now) }
+    ensures x { IfOk result (λ pair. (low ≤ℤ (grain *ℤ pair.x)) × ((grain *ℤ pair.x) ≤ℤ high)) }
+    ensures y { IfOk result (λ pair. (low ≤ℤ (grain *ℤ pair.y)) × ((grain *ℤ pair.y) ≤ℤ high)) }
 {
     let Some(first) = value.get(0) else {
         return Err(Cause::Kind);
@@ -294,7 +296,8 @@ fn is_name(least: usize, most: usize, text: &str) -> bool
 /// A text of `least` to `most` bytes of a name.
 #[tactic(auto, unfolding(crate::specs::Values::name_in))]
 pub fn name_in(least: usize, most: usize, value: &Value) -> Result<&str, Cause>
-    ensures { result_map_both (λ text. text.now) (λ e. e) result ≡ name_in least most (view value.now) }
+    ensures value { result_map_both (λ text. text.now) (λ e. e) result ≡ name_in least most (view value.now) }
+    ensures named { IfOk result (λ text. IsTrue (is_name least most text.now)) }
 {
     let Some(text) = value.as_str() else {
         return Err(Cause::Kind);
