@@ -72,6 +72,7 @@ fn read_first(table: &Table) -> Result<(&str, Heights), Bad>
 }
 
 // The corners of a bar.
+#[tactic(auto, unfolding(crate::specs::Printers::outline_in))]
 fn bar_outline(
     alloc: Global,
     table: &Table,
@@ -101,6 +102,7 @@ fn bar_outline(
 }
 
 // The corners that a part lists, or those of its bar.
+#[tactic(auto, unfolding(crate::specs::Printers::outline_in))]
 fn outline(
     alloc: Global,
     table: &Table,
