@@ -3,10 +3,12 @@
 --   outline_in sizes bar t  the corners that a part lists, or those of its bar
 --   part_in n sizes t       the part that table n lists, 1 + p for listed part p
 --   parts_behind n sizes done ds    the listed parts from number n on, behind those that are read
+--   top_in t                what the top table says
 --   description_in t        the description that a tree states, or the first refusal
 --   IsTreeOf bytes t        the bytes are UTF-8 and TOML, and t is their tree
 --   DescribedBy bytes d     the bytes state the description d, its parts with their corners as they are listed
 --   IsKept part kept        the part with the corners of its hull in place of its corners
+--   ArePartsOf sizes listed kept    the parts that are kept of those that are listed
 --   PrinterOf bytes p       the bytes describe the printer p, which keeps the hulls of its parts
 --   IsRefusedPrinter bytes e    the bytes are refused for this cause
 use Rattle.std.specs.Prelude.{◌≡◌, ◌↔◌, ◌⊎◌, ℕ, ◌+◌, ℤ, Bool, List, [], ◌∷◌, ◌++◌, All, Contains, Option, Some, None, Result, Ok, Err, IsUtf8, option_map}
@@ -14,7 +16,7 @@ use Rattle.convex_outline.specs.Corners.{AreCorners, at_spot}
 use Rattle.printer_envelopes.specs.Bands.{first_band, last_band}
 use Rattle.printer_envelopes.specs.Bars.{bar}
 use Rattle.seq_model.specs.Outlines.{Inner, Within}
-use Rattle.seq_model.specs.Parts.{tip}
+use Rattle.seq_model.specs.Parts.{tip, AreParts}
 use Rattle.seq_model.specs.Points.{Point}
 use Rattle.seq_model.specs.Scenes.{Description, description_of}
 use Rattle.seq_model.specs.declared.printer.Part.{Part}
@@ -74,13 +76,16 @@ description_with sizes parts = record {
   parts = parts;
 }
 
--- the top table, its other keys, and then each listed part behind the tip
+-- the top table and its other keys
+unfoldable pub top_in : Members → Result Said Prn
+top_in t = after (numbered 0 (reading top_keys t nothing)) (λ said. without_others 0 (names top_keys) t said)
+
+-- the top table, and then each listed part, behind the tip
 unfoldable pub description_in : Members → Result Description Prn
 description_in t =
-    after (numbered 0 (reading top_keys t nothing)) (λ said.
-    after (without_others 0 (names top_keys) t said) (λ top.
+    after (top_in t) (λ top.
     after (parts_behind 1 top.sizes (tip ∷ []) top.listed) (λ parts.
-    Ok (description_with top.sizes parts))))
+    Ok (description_with top.sizes parts)))
 
 pub record IsTreeOf (bytes : List ℕ) (t : Members) : Type 0 where
   pub text : IsUtf8 bytes
@@ -106,6 +111,13 @@ abbrev pub AreKept : List Part → List Part → Type 0
 AreKept [] [] = Unit {0}
 AreKept (part ∷ parts) (kept ∷ keeps) = IsKept part kept × AreKept parts keeps
 AreKept _ _ = ⊥
+
+-- the parts that a printer keeps of those that its description lists
+pub record ArePartsOf (sizes : Sizes) (listed : Items) (kept : List Part) : Type 0 where
+  pub parts : List Part
+  pub read : parts_behind 1 sizes (tip ∷ []) listed ≡ Ok parts
+  pub keeps : AreKept parts kept
+  pub sound : AreParts kept
 
 pub record PrinterOf (bytes : List ℕ) (printer : Printer) : Type 0 where
   pub parts : List Part

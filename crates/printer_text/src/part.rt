@@ -137,6 +137,7 @@ fn other_key(table: &Table, bar: Option<bool>) -> Option<&str>
 }
 
 /// The part that the table of this number lists, with its corners as they are listed.
+#[tactic(auto, unfolding(crate::specs::Printers::part_in))]
 pub fn read_part(alloc: Global, number: u32, table: &Table, sizes: &Sizes) -> Result<Part, Prn>
     requires { AreSizes sizes.now }
     ensures listed { IfOk result IsListedPart }

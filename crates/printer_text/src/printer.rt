@@ -1,13 +1,14 @@
 //! The whole description.
 
-ghost use Rattle.std.specs.Prelude.{◌≡◌, ◌≤◌, ◌⊎◌, List, ℕ, [], ◌∷◌, Ok, Err, IfOk, IfErr, All, length, option_map};
-ghost use Rattle.seq_model.specs.Parts.{tip, AreParts};
+ghost use Rattle.std.specs.Prelude.{◌≡◌, ◌≤◌, ◌⊎◌, List, ℕ, [], ◌∷◌, Ok, Err, IfOk, IfErr, IfSome, All, length, option_map};
+ghost use Rattle.seq_model.specs.Parts.{tip, AreParts, IsSoundPart};
 ghost use Rattle.seq_model.specs.Scenes.{Description, description_of};
 ghost use Rattle.seq_model.specs.declared.printer.Part.{Part};
 ghost use Rattle.toml.specs.View.{table_view, items_view};
 ghost use Rattle.printer_text.specs.Keys.{top_keys};
 ghost use Rattle.printer_text.specs.Outlines.{AreSizes, IsListedPart};
-ghost use Rattle.printer_text.specs.Printers.{parts_behind, description_in, description_with, DescribedBy, AreKept, PrinterOf, IsRefusedPrinter};
+ghost use Rattle.printer_text.specs.Printers.{top_in, parts_behind, IsKept, ArePartsOf, description_in, description_with, DescribedBy, AreKept, PrinterOf, IsRefusedPrinter};
+ghost use Rattle.printer_text.specs.Tables.{said_top};
 ghost use Rattle.printer_text.specs.declared.Prn.{Prn};
 
 use crate::keys::first_other;
@@ -35,11 +36,26 @@ fn tip(alloc: Global) -> Result<Part, AllocError>
     })
 }
 
-// The tip and the listed parts behind it, with their corners as they are listed.
+// The part with the corners of its hull.
+fn kept_part(alloc: Global, part: Part) -> Result<Part, NoMemory>
+    requires { IsListedPart part }
+    ensures kept { IfOk result (λ kept. IsKept part kept) }
+    ensures sound { IfOk result (λ kept. IsSoundPart kept) }
+{
+    let corners = hull(alloc, part.corners.as_slice())?;
+    Ok(Part {
+        name: part.name,
+        corners: Items::from_vec(corners),
+        lo: part.lo,
+        hi: part.hi,
+    })
+}
+
+// The tip and the listed parts behind it, with the corners of their hulls.
 fn read_parts(alloc: Global, sizes: &Sizes, listed: &[Value]) -> Result<Vec<Part>, Prn>
     requires sizes { AreSizes sizes.now }
     requires few { length listed.now ≤ 12 }
-    ensures ok { IfOk result (λ parts. parts_behind 1 sizes.now (tip ∷ []) (items_view listed.now) ≡ Ok parts.items) }
+    ensures ok { IfOk result (λ parts. ArePartsOf sizes.now (items_view listed.now) parts.items) }
     ensures err { IfErr result (λ e. (e ≡ Prn.NoMemory) ⊎ (parts_behind 1 sizes.now (tip ∷ []) (items_view listed.now) ≡ Err e)) }
 {
     let mut parts = Vec::new(alloc);
@@ -54,31 +70,14 @@ fn read_parts(alloc: Global, sizes: &Sizes, listed: &[Value]) -> Result<Vec<Part
             return Err(Prn::Kind(Key::Part, 0));
         };
         let part = read_part(alloc, index as u32 + 1, table, sizes)?;
-        if parts.push(part).is_err() {
+        let Ok(kept) = kept_part(alloc, part) else {
+            return Err(Prn::NoMemory);
+        };
+        if parts.push(kept).is_err() {
             return Err(Prn::NoMemory);
         }
     }
     Ok(parts)
-}
-
-// The part with the corners of its hull.
-fn kept_part(alloc: Global, part: Part) -> Result<Part, NoMemory> {
-    let corners = hull(alloc, part.corners.as_slice())?;
-    Ok(Part {
-        name: part.name,
-        corners: Items::from_vec(corners),
-        lo: part.lo,
-        hi: part.hi,
-    })
-}
-
-// The parts with the corners of their hulls.
-fn kept_parts(alloc: Global, parts: Vec<Part>) -> Result<Items<Part>, NoMemory> {
-    let mut kept = Items::new(alloc);
-    for part in parts {
-        kept.push(kept_part(alloc, part)?)?;
-    }
-    Ok(kept)
 }
 
 fn printer_with(sizes: Sizes, parts: Items<Part>) -> Printer
@@ -98,7 +97,12 @@ fn printer_with(sizes: Sizes, parts: Items<Part>) -> Printer
 }
 
 // The sizes and the listed parts of a top table that has no other key.
-fn top_alone<'a>(alloc: Global, table: &'a Table) -> Result<(Sizes, Option<&'a [Value]>), Prn> {
+fn top_alone<'a>(alloc: Global, table: &'a Table) -> Result<(Sizes, Option<&'a [Value]>), Prn>
+    ensures ok { IfOk result (λ top. top_in (table_view table.now) ≡ Ok (said_top top.0 (option_map (λ values. items_view values.now) top.1))) }
+    ensures ranged { IfOk result (λ top. AreSizes top.0) }
+    ensures few { IfOk result (λ top. IfSome top.1 (λ values. length values.now ≤ 12)) }
+    ensures err { IfErr result (λ e. (e ≡ Prn.NoMemory) ⊎ (top_in (table_view table.now) ≡ Err e)) }
+{
     let top = match read_top(table) {
         Ok(top) => top,
         Err(bad) => return Err(refusal(0, bad)),
@@ -118,16 +122,14 @@ fn top_alone<'a>(alloc: Global, table: &'a Table) -> Result<(Sizes, Option<&'a [
     }
 }
 
+// The printer of a table.
 fn described(alloc: Global, table: &Table) -> Result<Printer, Prn>
     ensures ok { IfOk result (λ printer. (parts : List Part) × (description_in (table_view table.now) ≡ Ok (description_of printer parts)) × AreKept parts printer.parts) }
     ensures err { IfErr result (λ e. (e ≡ Prn.NoMemory) ⊎ (description_in (table_view table.now) ≡ Err e)) }
 {
     let (sizes, listed) = top_alone(alloc, table)?;
     let parts = read_parts(alloc, &sizes, listed.unwrap_or(&[]))?;
-    match kept_parts(alloc, parts) {
-        Ok(parts) => Ok(printer_with(sizes, parts)),
-        Err(NoMemory) => Err(Prn::NoMemory),
-    }
+    Ok(printer_with(sizes, Items::from_vec(parts)))
 }
 
 /// The printer that the bytes describe. Its parts are the tip and the listed ones, each with the corners of its hull.

@@ -12,4 +12,4 @@ returns-clause-ranged c =
     let fits_margin : FitsSigned w64 c.in_ok-margin.margin = search rules in
     let fits_grid : FitsSigned w64 c.in_ok-grid.grid = search rules in
     simp to_z-of_z (sizes_ranged c.in_ok-grain.grain c.in_ok-plate.plate.x c.in_ok-plate.plate.y c.in_ok-step.step c.in_ok-margin.margin c.in_ok-grid.grid
-      (search rules) (search rules) (search rules) (search rules) (search rules) (search rules))
+    (search rules) (search rules) (search rules) (search rules) (search rules) (search rules))
