@@ -97,6 +97,7 @@ fn printer_with(sizes: Sizes, parts: Items<Part>) -> Printer
 }
 
 // The sizes and the listed parts of a top table that has no other key.
+#[tactic(auto, unfolding(crate::specs::Printers::top_in))]
 fn top_alone<'a>(alloc: Global, table: &'a Table) -> Result<(Sizes, Option<&'a [Value]>), Prn>
     ensures ok { IfOk result (λ top. top_in (table_view table.now) ≡ Ok (said_top top.0 (option_map (λ values. items_view values.now) top.1))) }
     ensures ranged { IfOk result (λ top. AreSizes top.0) }
@@ -123,6 +124,7 @@ fn top_alone<'a>(alloc: Global, table: &'a Table) -> Result<(Sizes, Option<&'a [
 }
 
 // The printer of a table.
+#[tactic(auto, unfolding(crate::specs::Printers::description_in))]
 fn described(alloc: Global, table: &Table) -> Result<Printer, Prn>
     ensures ok { IfOk result (λ printer. (parts : List Part) × (description_in (table_view table.now) ≡ Ok (description_of printer parts)) × AreKept parts printer.parts) }
     ensures err { IfErr result (λ e. (e ≡ Prn.NoMemory) ⊎ (description_in (table_view table.now) ≡ Err e)) }

@@ -24,7 +24,7 @@ loop-index-preserved c =
     let is : as_table (view (get_or vs loop.index d)) ≡ Some (table_view c.in-Some.table.now) = search rules in
     let read : part_in (loop.index + 1) c.args.sizes.now (table_view c.in-Some.table.now) ≡ Ok c.in_ok-part.part = search rules in
     subst (Behind c.args.sizes.now (items_view vs) (items_view (drop (loop.index + 1) vs)) (loop.index + 1 + 1)) (sym items)
-      (goes_on c.args.sizes.now (items_view vs) vs loop.index d loop.parts.items (table_view c.in-Some.table.now) c.in_ok-part.part c.in-Ok-kept_part.kept below loop.invariant is read (search rules) (search rules))
+    (goes_on c.args.sizes.now (items_view vs) vs loop.index d loop.parts.items (table_view c.in-Some.table.now) c.in_ok-part.part c.in-Ok-kept_part.kept below loop.invariant is read (search rules) (search rules))
 
 pub returns-clause-ok : goal.returns-clause-ok
 returns-clause-ok c =
