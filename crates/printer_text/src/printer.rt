@@ -36,6 +36,15 @@ fn tip(alloc: Global) -> Result<Part, AllocError>
     })
 }
 
+// The tip alone, before any listed part.
+fn tip_alone(alloc: Global) -> Result<Vec<Part>, AllocError>
+    ensures { IfOk result (λ parts. parts.items ≡ tip ∷ []) }
+{
+    let mut parts = Vec::new(alloc);
+    parts.push(tip(alloc)?)?;
+    Ok(parts)
+}
+
 // The part with the corners of its hull.
 fn kept_part(alloc: Global, part: Part) -> Result<Part, NoMemory>
     requires { IsListedPart part }
@@ -58,13 +67,9 @@ fn read_parts(alloc: Global, sizes: &Sizes, listed: &[Value]) -> Result<Vec<Part
     ensures ok { IfOk result (λ parts. ArePartsOf sizes.now (items_view listed.now) parts.items) }
     ensures err { IfErr result (λ e. (e ≡ Prn.NoMemory) ⊎ (parts_behind 1 sizes.now (tip ∷ []) (items_view listed.now) ≡ Err e)) }
 {
-    let mut parts = Vec::new(alloc);
-    let Ok(tip) = tip(alloc) else {
+    let Ok(mut parts) = tip_alone(alloc) else {
         return Err(Prn::NoMemory);
     };
-    if parts.push(tip).is_err() {
-        return Err(Prn::NoMemory);
-    }
     for (index, value) in listed.iter().enumerate() {
         let Some(table) = value.as_table() else {
             return Err(Prn::Kind(Key::Part, 0));
