@@ -1,4 +1,2 @@
 pub mod Described
 pub mod Fields
-pub mod Lines
-pub mod Facets

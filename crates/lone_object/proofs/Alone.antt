@@ -12,14 +12,14 @@ use Rattle.lone_object.specs.Lone.{FitsPlate, zero_place, lone_plan}
 use borrow.Author.Differences.{neg_is, product_is}
 
 -- the grid's last extent has the whole of a length
-whole_share : (size : ℤ) (grid : ℕ) → pos 1 ≤ℤ size → 1 ≤ grid → share_of size grid grid ≡ size
+pub whole_share : (size : ℤ) (grid : ℕ) → pos 1 ≤ℤ size → 1 ≤ grid → share_of size grid grid ≡ size
 whole_share (pos s) grid h g = (let p : 0 < grid = omega arith in ap pos (mul-div_cancel s p))
 whole_share (negsuc s) grid h g = absurd (omega (arith, ints))
 
 nothing_left : (size : ℤ) → half_left size size ≡ pos 0
 nothing_left size = grind (arith, ints)
 
-abbrev whole_plate : ℤ → ℤ → Region
+abbrev pub whole_plate : ℤ → ℤ → Region
 whole_plate width depth = record { low = record { x = pos 0; y = pos 0 }; w = width; h = depth }
 
 pub whole_region : (width depth : ℤ) (grid : ℕ) → pos 1 ≤ℤ width → pos 1 ≤ℤ depth → 1 ≤ grid → region_of width depth grid grid ≡ whole_plate width depth

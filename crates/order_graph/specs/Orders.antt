@@ -1,20 +1,21 @@
 -- Orders among objects, which are numbered from 0. An order is a pair: (a, b) says that object a comes before object b.
 --
 --   Graph                           so many objects, and the orders held among them, newest last
---   IsGraph n held                  what each graph keeps: at most 16 objects, orders among them, and none leads to itself
 --   IsAmong n o                     the order is between two different objects below n
 --   AreAmong n orders               each order is
 --   IsOrdered orders a b            a comes before b by one of the orders
 --   Leads orders a b                a comes before b by one order, or by several over other objects
+--   HasCycle orders                 some object leads to itself
+--   IsGraph n held                  what each graph keeps: 1 to 16 objects, orders among them, and no cycle
+--   IsOnce objects                  no object stands twice in the list
 --   EachNext R objects              R holds from each object of the list to the next one
 --   IsWay orders objects            each object of the list is ordered before the next one
---   IsCycle orders objects          a way of at least two objects whose last one is ordered before the first
---   ClosesCycle orders i j objects  i, then j, then others, where the orders lead from j over the others to i
+--   IsSimpleCycle orders objects    two objects or more, each once and before the next, and the last before the first
+--   ClosesCycle orders i j objects  i, j and others: a cycle of the orders together with (i, j)
 --   StandsBefore objects a b        a has an earlier place in the list than b
---   IsOrder n orders objects        all n objects, each once, and the first object of each order stands before its second
---   HasCycle orders                 there is such a cycle
---   HasOrder n orders               there is such an order
-use Rattle.std.specs.Prelude.{◌≡◌, ◌≢◌, ◌↔◌, ℕ, ◌<◌, ◌≤◌, List, [], ◌∷◌, ◌++◌, length, slice_index, All, AllPairs, Contains}
+--   IsOrder n orders objects        all n objects, each once, and each order's first object stands before its second
+--   HasOrder n orders               there is such a list
+use Rattle.std.specs.Prelude.{◌≡◌, ◌≢◌, ◌↔◌, ℕ, ◌<◌, ◌≤◌, List, [], ◌∷◌, ◌++◌, length, slice_index, take, All, AllPairs, Contains}
 
 pub record Graph : Type 0 where
   pub objects : ℕ
@@ -34,10 +35,17 @@ pub data Leads (orders : List (ℕ × ℕ)) : ℕ → ℕ → Type 0 where
   one : (a b : ℕ) → IsOrdered orders a b → Leads orders a b
   more : (a b c : ℕ) → IsOrdered orders a b → Leads orders b c → Leads orders a c
 
+abbrev pub HasCycle : List (ℕ × ℕ) → Type 0
+HasCycle orders = (a : ℕ) × Leads orders a a
+
 pub record IsGraph (n : ℕ) (held : List (ℕ × ℕ)) : Type 0 where
+  pub some : 1 ≤ n
   pub few : n ≤ 16
   pub among : AreAmong n held
-  pub acyclic : (a : ℕ) → Leads held a a → ⊥
+  pub acyclic : HasCycle held → ⊥
+
+abbrev pub IsOnce : List ℕ → Type 0
+IsOnce objects = AllPairs (λ a b. a ≢ b) objects
 
 abbrev pub EachNext : (ℕ → ℕ → Type 0) → List ℕ → Type 0
 EachNext R [] = Unit {0}
@@ -47,15 +55,15 @@ EachNext R (a ∷ b ∷ rest) = R a b × EachNext R (b ∷ rest)
 abbrev pub IsWay : List (ℕ × ℕ) → List ℕ → Type 0
 IsWay orders objects = EachNext (IsOrdered orders) objects
 
-abbrev pub IsCycle : List (ℕ × ℕ) → List ℕ → Type 0
-IsCycle orders [] = ⊥
-IsCycle orders (a ∷ []) = ⊥
-IsCycle orders (a ∷ b ∷ rest) = IsWay orders (a ∷ b ∷ rest ++ a ∷ [])
+pub record IsSimpleCycle (orders : List (ℕ × ℕ)) (objects : List ℕ) : Type 0 where
+  pub some : 2 ≤ length objects
+  pub once : IsOnce objects
+  pub round : IsWay orders (objects ++ take 1 objects)
 
 pub record ClosesCycle (orders : List (ℕ × ℕ)) (i j : ℕ) (objects : List ℕ) : Type 0 where
   pub others : List ℕ
   pub begins : objects ≡ i ∷ j ∷ others
-  pub back : IsWay orders (j ∷ others ++ i ∷ [])
+  pub is_cycle : IsSimpleCycle (orders ++ (i, j) ∷ []) objects
 
 pub record StandsBefore (objects : List ℕ) (a b : ℕ) : Type 0 where
   pub earlier : ℕ
@@ -67,11 +75,8 @@ pub record StandsBefore (objects : List ℕ) (a b : ℕ) : Type 0 where
 
 pub record IsOrder (n : ℕ) (orders : List (ℕ × ℕ)) (objects : List ℕ) : Type 0 where
   pub all : (k : ℕ) → Contains objects k ↔ (k < n)
-  pub once : AllPairs (λ a b. a ≢ b) objects
+  pub once : IsOnce objects
   pub kept : All (λ o. StandsBefore objects o.0 o.1) orders
-
-abbrev pub HasCycle : List (ℕ × ℕ) → Type 0
-HasCycle orders = (objects : List ℕ) × IsCycle orders objects
 
 abbrev pub HasOrder : ℕ → List (ℕ × ℕ) → Type 0
 HasOrder n orders = (objects : List ℕ) × IsOrder n orders objects

@@ -1,20 +1,24 @@
--- What the searches behind `add` and `complete` find. Each of 16 objects has a next object or none.
+-- What the searches behind `add` and `complete` find. Each of 16 objects has a next object or none, and a set `before`
+-- of those that are ordered before it.
 --
 --   IsNext next a b                     b is the next object of a
 --   IsNextBelow n next                  each next object is below n
---   IsWalk next start way               from start over each one's next object to one that has none
---   IsRing next objects                 each object's next one is the next of the list, and the last one's the first
+--   IsWalk next start way               from start over each one's next object to one that has none, each once
+--   ComesRound next objects             each once, each one's next one follows it in the list, and the last one's is the first
+--   Follows next start trail            the trail is the walk from start, or goes round
 --
 --   IsKnown next goal a                 a is the goal, or has a next object
---   IsClosed orders next goal           what is ordered before a known object is known
---   IsOpen orders next goal o           an order for which that fails
---   LeadsOn orders goal next            next objects are ordered after, known, and nearer to the goal by some rank
+--   AllKnown before next goal           what is ordered before a known object is known
+--   LeadsOn before goal next            next objects are ordered after, known, and nearer to the goal by some rank
 --
---   IsNextUnplaced orders placed next   for each object one that is ordered after it and not placed, if there is one
---   IsLast orders placed k              k isn't placed, and all that is ordered after it is
---   IsPlacing orders placed objects     those that are placed, each once and before all that is ordered after it
-use Rattle.std.specs.Prelude.{◌≡◌, ◌≢◌, ℕ, ◌<◌, List, [], ◌∷◌, ◌++◌, slice_index, slice_index_or, Option, Some, None, IsSome, Bool, true, false, length, All, AllPairs, Contains}
-use Rattle.order_graph.specs.Orders.{IsOrdered, EachNext, StandsBefore}
+--   IsFree before left k                k is left to be placed, and nothing that is left is ordered before it
+--   NoneFree before left                before each object that is left another one is ordered
+--   LeadsBack before left next          for each object that is left the next one is left and ordered before it
+use Rattle.std.specs.Prelude.{◌≡◌, ◌≢◌, ℕ, ◌<◌, List, [], ◌∷◌, ◌++◌, slice_index, slice_index_or, Option, Some, None, IsSome}
+use Rattle.order_graph.specs.Orders.{IsOnce, EachNext}
+use Rattle.order_graph.specs.Sets.{Has, IsBefore}
+use Rattle.order_graph.specs.declared.walk.Trail.{Trail}
+use Rattle.order_graph.specs.declared.walk.Trail.TheVariants as Trails
 
 abbrev pub IsNext : List (Option ℕ) → ℕ → ℕ → Type 0
 IsNext next a b = slice_index_or next a None ≡ Some b
@@ -26,43 +30,42 @@ pub record IsWalk (next : List (Option ℕ)) (start : ℕ) (way : List ℕ) : Ty
   pub front : List ℕ
   pub last : ℕ
   pub whole : way ≡ front ++ last ∷ []
+  pub once : IsOnce way
   pub starts : slice_index way 0 ≡ start
   pub steps : EachNext (IsNext next) way
   pub ends : slice_index_or next last None ≡ None
 
-abbrev pub IsRing : List (Option ℕ) → List ℕ → Type 0
-IsRing next [] = ⊥
-IsRing next (a ∷ rest) = EachNext (IsNext next) (a ∷ rest ++ a ∷ [])
+pub record ComesRound (next : List (Option ℕ)) (objects : List ℕ) : Type 0 where
+  pub first : ℕ
+  pub rest : List ℕ
+  pub whole : objects ≡ first ∷ rest
+  pub once : IsOnce objects
+  pub round : EachNext (IsNext next) (first ∷ rest ++ first ∷ [])
+
+abbrev pub Follows : List (Option ℕ) → ℕ → Trail → Type 0
+Follows next start (Trails.End way) = IsWalk next start way
+Follows next start (Trails.Round objects) = ComesRound next objects
 
 abbrev pub IsKnown : List (Option ℕ) → ℕ → ℕ → Type 0
 IsKnown next goal a = a ≢ goal → IsSome (slice_index_or next a None)
 
-abbrev pub IsClosed : List (ℕ × ℕ) → List (Option ℕ) → ℕ → Type 0
-IsClosed orders next goal = All (λ o. IsKnown next goal o.1 → IsKnown next goal o.0) orders
+abbrev pub AllKnown : List ℕ → List (Option ℕ) → ℕ → Type 0
+AllKnown before next goal = (a b : ℕ) → IsBefore before a b → IsKnown next goal b → IsKnown next goal a
 
-pub record IsOpen (orders : List (ℕ × ℕ)) (next : List (Option ℕ)) (goal : ℕ) (o : ℕ × ℕ) : Type 0 where
-  pub order : Contains orders o
-  pub start : IsKnown next goal o.0 → ⊥
-  pub end : IsKnown next goal o.1
-
-pub record LeadsOn (orders : List (ℕ × ℕ)) (goal : ℕ) (next : List (Option ℕ)) : Type 0 where
+pub record LeadsOn (before : List ℕ) (goal : ℕ) (next : List (Option ℕ)) : Type 0 where
   pub rank : ℕ → ℕ
   pub stop : slice_index_or next goal None ≡ None
-  pub order : (a b : ℕ) → IsNext next a b → IsOrdered orders a b
+  pub order : (a b : ℕ) → IsNext next a b → IsBefore before a b
   pub known : (a b : ℕ) → IsNext next a b → IsKnown next goal b
   pub nearer : (a b : ℕ) → IsNext next a b → rank b < rank a
 
-pub record IsNextUnplaced (orders : List (ℕ × ℕ)) (placed : List Bool) (next : List (Option ℕ)) : Type 0 where
-  pub step : (a b : ℕ) → IsNext next a b → IsOrdered orders a b × (slice_index_or placed b false ≡ false)
-  pub some : (a b : ℕ) → IsOrdered orders a b → slice_index_or placed b false ≡ false → IsSome (slice_index_or next a None)
+pub record IsFree (before : List ℕ) (left k : ℕ) : Type 0 where
+  pub left_over : Has left k
+  pub first : (a : ℕ) → IsBefore before a k → Has left a → ⊥
 
-pub record IsLast (orders : List (ℕ × ℕ)) (placed : List Bool) (k : ℕ) : Type 0 where
-  pub within : k < length placed
-  pub unplaced : slice_index_or placed k false ≡ false
-  pub after_it : (b : ℕ) → IsOrdered orders k b → slice_index_or placed b false ≡ true
+abbrev pub NoneFree : List ℕ → ℕ → Type 0
+NoneFree before left = (k : ℕ) → Has left k → (a : ℕ) × IsBefore before a k × Has left a
 
-pub record IsPlacing (orders : List (ℕ × ℕ)) (placed : List Bool) (objects : List ℕ) : Type 0 where
-  pub marked : All (λ k. (k < length placed) × (slice_index_or placed k false ≡ true)) objects
-  pub listed : (k : ℕ) → k < length placed → slice_index_or placed k false ≡ true → Contains objects k
-  pub once : AllPairs (λ a b. a ≢ b) objects
-  pub kept : (a b : ℕ) → IsOrdered orders a b → Contains objects a → StandsBefore objects a b
+pub record LeadsBack (before : List ℕ) (left : ℕ) (next : List (Option ℕ)) : Type 0 where
+  pub step : (b a : ℕ) → IsNext next b a → IsBefore before a b × Has left a
+  pub some : (b : ℕ) → Has left b → IsSome (slice_index_or next b None)

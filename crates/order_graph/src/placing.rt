@@ -1,76 +1,89 @@
-ghost use Rattle.std.specs.Prelude.{◌≡◌, ℕ, ◌<◌, ◌≤◌, ◌++◌, length, slice_index_or, true, false, All, MatchOption, MatchResult};
-ghost use Rattle.order_graph.specs.Orders.{AreAmong, IsOrder, IsCycle};
-ghost use Rattle.order_graph.specs.Walks.{IsNextUnplaced, IsLast};
+ghost use Rattle.std.specs.Prelude.{◌≡◌, ◌≢◌, ℕ, ◌<◌, ◌≤◌, List, ◌++◌, MatchOption, MatchResult};
+ghost use Rattle.order_graph.specs.Orders.{AreAmong, IsAmong, IsOrder, IsSimpleCycle};
+ghost use Rattle.order_graph.specs.Sets.{Has, IsBefore, AreNoted};
+ghost use Rattle.order_graph.specs.Walks.{IsFree, NoneFree, LeadsBack};
 
 use crate::answers::{Cycle, Order};
-use crate::way::follow;
+use crate::row::Row;
+use crate::sets::{Objects, any_of, below, shared, with, without};
+use crate::walk::{Trail, follow};
 
-/// For each object one that it is ordered before and that isn't placed, where there is one.
-fn next_unplaced(held: &[(u32, u32)], forced: &[(u32, u32)], placed: &[bool]) -> [Option<u32>; 16]
-    requires few { length placed.now ≤ 16 }
-    requires held { AreAmong (length placed.now) held.now }
-    requires forced { AreAmong (length placed.now) forced.now }
-    ensures { IsNextUnplaced (held.now ++ forced.now) placed.now result }
+/// For each object the set of those that are ordered before it, by the orders so far or by these.
+pub fn before_with(before: &[Objects; 16], orders: &[(u32, u32)]) -> [Objects; 16]
+    requires { AreAmong 16 orders.now }
+    ensures { (held : List (ℕ × ℕ)) → AreNoted held before.now → AreNoted (held ++ orders.now) result }
+{
+    let mut more = *before;
+    for &(i, j) in orders {
+        more[j as usize] = with(more[j as usize], i);
+    }
+    more
+}
+
+/// An object that can be placed next: nothing that is left is ordered before it.
+fn free(before: &[Objects; 16], left: Objects) -> Option<u32>
+    ensures { MatchOption result (NoneFree before.now left) (IsFree before.now left) }
+{
+    let mut rest = left;
+    while let Some(k) = any_of(rest) {
+        match any_of(shared(before[k as usize], left)) {
+            None => return Some(k),
+            Some(_) => rest = without(rest, k),
+        }
+    }
+    None
+}
+
+/// For each object that is left another one that is left and ordered before it.
+fn next_backwards(before: &[Objects; 16], left: Objects) -> [Option<u32>; 16]
+    requires { NoneFree before.now left }
+    ensures { LeadsBack before.now left result }
 {
     let mut next = [None; 16];
-    for &(i, j) in held.iter().chain(forced) {
-        if !placed[j as usize] {
-            next[i as usize] = Some(j);
-        }
+    let mut rest = left;
+    while let Some(k) = any_of(rest) {
+        next[k as usize] = any_of(shared(before[k as usize], left));
+        rest = without(rest, k);
     }
     next
 }
 
-/// An object that isn't placed and is ordered before placed ones alone; or a cycle, where a way from `start` finds none.
-fn last_unplaced(
-    held: &[(u32, u32)],
-    forced: &[(u32, u32)],
-    placed: &[bool],
-    start: u32,
-) -> Result<u32, Cycle>
-    requires few { length placed.now ≤ 16 }
-    requires held { AreAmong (length placed.now) held.now }
-    requires forced { AreAmong (length placed.now) forced.now }
-    requires start { start < length placed.now }
-    requires unplaced { slice_index_or placed.now start false ≡ false }
-    ensures { MatchResult result
-        (IsLast (held.now ++ forced.now) placed.now)
-        (IsCycle (held.now ++ forced.now)) }
+/// A cycle of objects that are left, where none of these is free.
+fn cycle_among(before: &[Objects; 16], left: Objects, start: u32) -> Cycle
+    requires start { Has left start }
+    requires none { NoneFree before.now left }
+    requires apart { (a b : ℕ) → IsBefore before.now a b → a ≢ b }
+    ensures { (orders : List (ℕ × ℕ)) → AreNoted orders before.now → IsSimpleCycle orders result }
 {
-    let next = next_unplaced(held, forced, placed);
-    let way = follow(&next, start)?;
-    Ok(way.last())
-}
-
-fn first_unplaced(placed: &[bool]) -> Option<usize>
-    ensures { MatchOption result
-        (All (λ is_placed. is_placed ≡ true) placed.now)
-        (λ k. (k < length placed.now) × (slice_index_or placed.now k false ≡ false)) }
-{
-    placed.iter().position(|&is_placed| !is_placed)
-}
-
-/// All `n` objects in an order that keeps the held orders and the forced ones, or a cycle of these.
-///
-/// The places are filled from the last to the first. For each of them all orders are read once, and then a way is
-/// walked over objects without a place: at 16 objects 16 steps for each order, and fewer than 1,000 besides.
-pub fn order_of(n: u32, held: &[(u32, u32)], forced: &[(u32, u32)]) -> Result<Order, Cycle>
-    requires few { n ≤ 16 }
-    requires held { AreAmong n held.now }
-    requires forced { AreAmong n forced.now }
-    ensures { MatchResult result
-        (IsOrder n (held.now ++ forced.now))
-        (IsCycle (held.now ++ forced.now)) }
-{
-    let mut flags = [false; 16];
-    let placed = &mut flags[..n as usize];
-    let mut objects = [0; 16];
-    let mut place = n as usize;
-    while let Some(start) = first_unplaced(placed) {
-        let last = last_unplaced(held, forced, placed, start as u32)?;
-        place -= 1;
-        objects[place] = last;
-        placed[last as usize] = true;
+    match follow(&next_backwards(before, left), start) {
+        Trail::End(_) => unreachable!("before each object another one is left"),
+        Trail::Round(cycle) => cycle.reversed(),
     }
-    Ok(Order { len: n, objects })
+}
+
+/// All `n` objects in an order that keeps the noted orders, or a cycle of these.
+///
+/// The places are filled from the first to the last. For each the objects that are left are looked at until one is
+/// free: at 16 objects 16 looks, then 15, and so on, 136 at most.
+///
+/// Where none of the L objects left is free, L (L - 1) / 2 of these looks aren't taken. Each of the L gets its next
+/// one backwards (L), and the walk back takes L + 1 turns that look at (L - 1) (L + 2) / 2 objects passed: 136 + 3 L
+/// steps in all. The cycle is then moved to the front (16) and reversed (8).
+pub fn order_of(n: u32, before: &[Objects; 16]) -> Result<Order, Cycle>
+    requires some { 1 ≤ n }
+    requires few { n ≤ 16 }
+    requires among { (a b : ℕ) → IsBefore before.now a b → IsAmong n (a, b) }
+    ensures { (orders : List (ℕ × ℕ)) → AreNoted orders before.now →
+        MatchResult result (IsOrder n orders) (IsSimpleCycle orders) }
+{
+    let mut left = below(n);
+    let mut placed = Row::new();
+    while let Some(k) = free(before, left) {
+        placed.push(k);
+        left = without(left, k);
+    }
+    match any_of(left) {
+        None => Ok(placed.into_order()),
+        Some(start) => Err(cycle_among(before, left, start)),
+    }
 }

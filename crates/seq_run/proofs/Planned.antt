@@ -1,19 +1,23 @@
--- The plan of one object: its text, why it is valid, and why there is none.
-use Rattle.std.proofs.Common.{◌≡◌, ℕ, ◌≤◌, pos, ◌≤ℤ◌, ℤ, List, [], ◌∷◌, ◌++◌, refl, sym, ap, ◌∙◌, subst, arith, append_assoc, append-nil}
+-- The plan of one object: its text and why it is valid; or the certificate and why it refutes.
+use Rattle.std.proofs.Common.{◌≡◌, ℕ, ◌≤◌, ◌^◌, unsigned_abs, pos, ◌≤ℤ◌, List, [], ◌∷◌, refl, sym, ap, ◌∙◌, subst, arith}
 use Rattle.std.proofs.lemmas.Int.{ints}
-use Rattle.std.proofs.lemmas.List.Elements.{All-nil, All-cons, All-contains}
+use Rattle.std.proofs.lemmas.List.Elements.{All-nil, All-cons}
 use Rattle.std.proofs.Math.Nat.{eq-one_of_dvd-one}
-use Rattle.lone_object.specs.Lone.{FitsPlate, zero_place, lone_plan}
-use Rattle.seq_model.specs.Bands.{band_count}
-use Rattle.seq_model.specs.Scenes.{Scene, Between, SomeSpot, Spans, Valid, scene_of_files, description_of}
+use Rattle.lone_object.specs.Lone.{FitsPlate, Overhangs, IsFirstNegative, span_tree, zero_place, lone_plan}
+use Rattle.plan_text.specs.PlanText.{plan_text, IsPlace, IsPlanFile}
+use Rattle.seq_model.specs.Scenes.{Description, Scene, Spans, Valid, scene_of_files, description_of}
+use Rattle.seq_model.specs.Systems.{system}
+use Rattle.seq_model.specs.Trees.{Refutes}
+use Rattle.seq_model.specs.declared.job.Job.{Job}
+use Rattle.seq_model.specs.declared.job.Object.{Object}
 use Rattle.seq_model.specs.declared.mesh.Facet.{Facet}
 use Rattle.seq_model.specs.declared.plan.Place.{Place}
 use Rattle.seq_model.specs.declared.plan.Plan.{Plan}
 use Rattle.seq_model.specs.declared.printer.Part.{Part}
 use Rattle.seq_model.specs.declared.printer.Printer.{Printer}
 use Rattle.seq_model.specs.declared.printer.Spot.{Spot}
-use Rattle.seq_run.specs.Answers.{found, PrintsPlan, IsArrangeable}
-use Rattle.plan_text.specs.PlanText.{plan_text, IsPlace, IsPlanFile}
+use Rattle.seq_run.specs.Answers.{PrintsPlan, ArrangesJob}
+use Rattle.seq_run.specs.Texts.{found, none_text}
 
 -- no number but 1 divides the scale 1, so the file of a plan of one place is one that the grammar spells
 pub is_file : (grid : ℕ) (place : Place) (plan : Plan) → plan ≡ lone_plan place → 1 ≤ grid → grid ≤ 1_000 → IsPlace place → IsPlanFile (found grid plan)
@@ -32,51 +36,66 @@ is_file grid place plan same low high is = subst (λ p. IsPlanFile (found grid p
   bare = λ none. absurd (cc none);
 })
 
--- a spot of the object lies between its extremes
-lies : (scene : Scene) (o : ℕ) (low high : Spot) (P : Spot → Type 0) → Spans scene o low high → (s : SomeSpot scene o P) → Between low high s.spot
-lies scene o low high P spans s = All-contains (Between low high) (scene.spots o s.band) s.spot (spans.holds s.band s.below_count) s.member
-
--- the extremes are the same however they are found, so an object that fits by some fits by these
-pub fits_too : (scene : Scene) (o : ℕ) (low high low' high' : Spot) (width depth : ℤ) → Spans scene o low high → Spans scene o low' high' → FitsPlate width depth low' high' → FitsPlate width depth low high
-fits_too scene o low high low' high' width depth s t f =
-    let west = (lies scene o low' high' _ t s.west).west in
-    let east = (lies scene o low' high' _ t s.east).east in
-    let south = (lies scene o low' high' _ t s.south).south in
-    let north = (lies scene o low' high' _ t s.north).north in
-    record {
-      x = omega (arith, ints, west, east, s.west.so, s.east.so, f.x);
-      y = omega (arith, ints, south, north, s.south.so, s.north.so, f.y);
-    }
-
-pub not_arrangeable : (printer : Printer) (facets : List Facet) (low high : Spot) → Spans (scene_of_files (description_of printer printer.parts) (facets ∷ [])) 0 low high → (FitsPlate printer.width printer.depth low high → ⊥)
-    → IsArrangeable (description_of printer printer.parts) facets → ⊥
-not_arrangeable printer facets low high spans unfit a =
-    unfit (fits_too (scene_of_files (description_of printer printer.parts) (facets ∷ [])) 0 low high a.fits.low a.fits.high printer.width printer.depth spans a.fits.spans a.fits.fits)
-
-pub is_arrangeable : (printer : Printer) (facets : List Facet) (low high : Spot) (bands : ℕ) → Spans (scene_of_files (description_of printer printer.parts) (facets ∷ [])) 0 low high → FitsPlate printer.width printer.depth low high
-    → bands ≡ band_count facets printer.step → bands ≤ 200 → IsArrangeable (description_of printer printer.parts) facets
-is_arrangeable printer facets low high bands spans fits is few = record {
-  few_bands = omega (arith, is, few);
-  fits = record { low = low; high = high; spans = spans; fits = fits };
-}
+pub is_place : (low : Spot) (place : Place) → place ≡ zero_place low → unsigned_abs place.x ≤ 2 ^ 63 → unsigned_abs place.y ≤ 2 ^ 63 → IsPlace place
+is_place low place is x y =
+    let first : place.object ≡ 0 = ap (λ (p : Place). p.object) is in
+    record { object = omega (arith, first); x = omega (arith, x); y = omega (arith, y) }
 
 abbrev pub LoneLaw : Type 0
 LoneLaw = (scene : Scene) (low high : Spot) → scene.objects ≡ 1 → 1 ≤ scene.grid → pos 1 ≤ℤ scene.width → pos 1 ≤ℤ scene.depth → Spans scene 0 low high → FitsPlate scene.width scene.depth low high → Valid scene scene.grid (lone_plan (zero_place low))
 
-pub prints : LoneLaw → (printer : Printer) (facets : List Facet) (low high : Spot) (place : Place) (text : List ℕ) → Spans (scene_of_files (description_of printer printer.parts) (facets ∷ [])) 0 low high → FitsPlate printer.width printer.depth low high
-    → place ≡ zero_place low → text ≡ plan_text (found printer.grid (lone_plan place)) → IsPlanFile (found printer.grid (lone_plan place)) → PrintsPlan (description_of printer printer.parts) facets text
-prints law printer facets low high place text spans fits is_place is file =
-    let scene = scene_of_files (description_of printer printer.parts) (facets ∷ []) in
+abbrev pub NoPlanLaw : Type 0
+NoPlanLaw = (scene : Scene) (low high : Spot) (row : ℕ) → scene.objects ≡ 1 → 1 ≤ scene.grid → pos 1 ≤ℤ scene.width → pos 1 ≤ℤ scene.depth → Spans scene 0 low high → Overhangs scene.width scene.depth low high row → (e : ℕ) (plan : Plan) → Valid scene e plan → ⊥
+
+abbrev pub FirstLaw : Type 0
+FirstLaw = (job : Job) (object : Object) (row : ℕ) → job.objects ≡ object ∷ [] → Overhangs job.printer.width job.printer.depth object.low object.high row → IsFirstNegative (system job job.printer.grid []) row
+
+abbrev pub TreeLaw : Type 0
+TreeLaw = (job : Job) (object : Object) (row : ℕ) → job.objects ≡ object ∷ [] → Overhangs job.printer.width job.printer.depth object.low object.high row → Refutes job job.printer.grid [] (span_tree row)
+
+-- the description that a printer's numbers state with these parts
+abbrev stated : Printer → List Part → Description
+stated printer listed = description_of printer listed
+
+prints_plan : LoneLaw → (printer : Printer) (listed : List Part) (facets : List Facet) (low high : Spot) (place : Place) (text : List ℕ) → Spans (scene_of_files (stated printer listed) (facets ∷ [])) 0 low high → FitsPlate printer.width printer.depth low high
+    → place ≡ zero_place low → text ≡ plan_text (found printer.grid (lone_plan place)) → IsPlace place → PrintsPlan (stated printer listed) facets text
+prints_plan law printer listed facets low high place text spans fits is_place is spelled =
     let ranged = printer.ranged in
     record {
       plan = lone_plan (zero_place low);
-      valid = law scene low high refl ranged.grid_low ranged.width_low ranged.depth_low spans fits;
+      valid = law (scene_of_files (stated printer listed) (facets ∷ [])) low high refl ranged.grid_low ranged.width_low ranged.depth_low spans fits;
       is = is ∙ ap (λ p. plan_text (found printer.grid (lone_plan p))) is_place;
-      file = subst (λ p. IsPlanFile (found printer.grid (lone_plan p))) is_place file;
+      file = subst (λ p. IsPlanFile (found printer.grid (lone_plan p))) is_place (is_file printer.grid place (lone_plan place) refl ranged.grid_low ranged.grid_high spelled);
       zero_point = record { low = low; high = high; spans = spans; is = refl };
     }
 
--- the extremes of a slice are those of the list that it shows
-pub spans_of : (printer : Printer) (slice facets : List Facet) (low high : Spot) → slice ≡ facets → ((listed : List Part) → Spans (scene_of_files (description_of printer listed) (slice ∷ [])) 0 low high)
-    → Spans (scene_of_files (description_of printer printer.parts) (facets ∷ [])) 0 low high
-spans_of printer slice facets low high same spans = subst (λ fs. Spans (scene_of_files (description_of printer printer.parts) (fs ∷ [])) 0 low high) same (spans printer.parts)
+only_same : (a b : Object) → a ∷ [] ≡ b ∷ [] → a ≡ b
+only_same a b e = cc
+
+pub found_for : LoneLaw → (job : Job) (object : Object) (place : Place) (text : List ℕ) → job.objects ≡ object ∷ [] → FitsPlate job.printer.width job.printer.depth object.low object.high
+    → place ≡ zero_place object.low → text ≡ plan_text (found job.printer.grid (lone_plan place)) → IsPlace place → ArrangesJob job 0 text
+found_for law job object place text one fits is_place is spelled = record {
+  each = λ strict d name facets j.
+      (let same : object ≡ j.object = only_same object j.object (sym one ∙ j.one) in
+      let spans = subst (λ (o : Object). Spans (scene_of_files (stated job.printer d.parts) (facets ∷ [])) 0 o.low o.high) (sym same) (j.is.spans d.parts) in
+      subst (λ e. PrintsPlan e facets text) j.printer.numbers (prints_plan law job.printer d.parts facets object.low object.high place text spans fits is_place is spelled));
+}
+
+pub none_for : NoPlanLaw → FirstLaw → TreeLaw → (job : Job) (object : Object) (row : ℕ) (text : List ℕ) → job.objects ≡ object ∷ [] → Overhangs job.printer.width job.printer.depth object.low object.high row → text ≡ none_text job.printer.grid row → ArrangesJob job 1 text
+none_for no_plan first tree job object row text one over is = record {
+  each = λ strict d name facets j.
+      (let ranged = job.printer.ranged in
+      let same : object ≡ j.object = only_same object j.object (sym one ∙ j.one) in
+      let there : Overhangs job.printer.width job.printer.depth j.object.low j.object.high row = subst (λ (o : Object). Overhangs job.printer.width job.printer.depth o.low o.high row) same over in
+      let numbers = j.printer.numbers in
+      record {
+        none = subst (λ e. (x : ℕ) (plan : Plan) → Valid (scene_of_files e (facets ∷ [])) x plan → ⊥) numbers
+            (no_plan (scene_of_files (stated job.printer d.parts) (facets ∷ [])) j.object.low j.object.high row refl ranged.grid_low ranged.width_low ranged.depth_low (j.is.spans d.parts) there);
+        job = job;
+        is_job = j;
+        row = row;
+        is = is ∙ ap (λ (e : Description). none_text e.grid row) numbers;
+        first = subst (λ (e : Description). IsFirstNegative (system job e.grid []) row) numbers (first job j.object row j.one there);
+        refutes = subst (λ (e : Description). Refutes job e.grid [] (span_tree row)) numbers (tree job j.object row j.one there);
+      });
+}

@@ -1,107 +1,125 @@
--- Why a run stops without a plan.
+-- Why a run stops at its files. The printer is looked at first, and the mesh only where the printer can be used.
 --
---   name_of words file              the word that names the file
---   Usable files words              the words' files have an answer with status 0
---   Refuses files words file cause  the first file in word order that can't be used is this one, for this cause
---   Reaches files words file        the files before this one can be used
---   Explains files words stop       what a stop says of the words and the files
-use Rattle.std.specs.Prelude.{◌≡◌, ℕ, ◌<◌, ◌≤◌, ◌^◌, ◌*◌, List, [], length, Option, Some, None, Result, Ok, Err}
+--   IsSomePrinter files name          the file of that name states some description
+--   IsRefusedPrinter files name c     it is refused for this cause
+--   IsNotClosed strict facets e v     a strict run, and the mesh has e open edges and v for six times its volume
+--   IsUnfitFor task facets step c     the mesh can't be used for this cause
+--   IsRefusedMesh files a d c         the mesh is refused for this cause, by a printer of this description
+--   Refuses files a file c            the first file in word order that can't be used is this one, for this cause
+--   Reaches files a file              those before this one can be used
+--   Explains files a stop             what a stop says of the files
+use Rattle.std.specs.Prelude.{◌≡◌, ℕ, ℤ, Bool, true, ◌≤◌, List, [], length, Option}
 use Rattle.first_forms.specs.Descriptions.{IsNoPrinter}
-use Rattle.seq_io.specs.Files.{bytes_of}
+use Rattle.mesh_checks.specs.Edges.{open_edges}
+use Rattle.mesh_checks.specs.Verdicts.{IsClosedOutward}
+use Rattle.mesh_checks.specs.Volumes.{six_volume}
+use Rattle.mesh_slices.specs.Objects.{IsTooTall}
+use Rattle.seq_io.specs.Files.{GivesFile, LongerThan}
 use Rattle.seq_io.specs.declared.mem_file.MemFile.{MemFile}
 use Rattle.seq_model.specs.Scenes.{Description}
 use Rattle.seq_model.specs.declared.mesh.Facet.{Facet}
-use Rattle.seq_run.specs.Answers.{UsesPrinter, UsesMesh, Answers}
-use Rattle.seq_run.specs.Words.{Asked, asked}
+use Rattle.stl_text.specs.Meshes.{IsRefused}
+use Rattle.stl_text.specs.declared.Stl.{Stl}
+use Rattle.seq_run.specs.Files.{limit_of, IsPrinterFile, IsMeshFile, PassesStrict}
+use Rattle.seq_run.specs.Words.{is_strict}
 use Rattle.seq_run.specs.declared.stop.Cause.{Cause}
-use Rattle.seq_run.specs.declared.stop.Cause.TheVariants.{TooLong, NotYet}
+use Rattle.seq_run.specs.declared.stop.Cause.TheVariants as Causes
 use Rattle.seq_run.specs.declared.stop.NamedFile.{NamedFile}
 use Rattle.seq_run.specs.declared.stop.NamedFile.TheVariants.{Printer, Mesh}
 use Rattle.seq_run.specs.declared.stop.Stop.{Stop}
-use Rattle.seq_run.specs.declared.stop.Stop.TheVariants.{Words, Read, Input, Memory}
-use Rattle.seq_run.specs.declared.words.WordsRefusal.{WordsRefusal}
+use Rattle.seq_run.specs.declared.stop.Stop.TheVariants.{Read, Input, Memory}
+use Rattle.seq_run.specs.declared.words.Asked.{Asked}
+use Rattle.seq_run.specs.declared.words.Task.{Task}
 
-abbrev pub name_in : Asked → NamedFile → List ℕ
-name_in a Printer = a.printer
-name_in a Mesh = a.mesh
-
-abbrev name_asked : Result Asked WordsRefusal → NamedFile → List ℕ
-name_asked (Ok a) file = name_in a file
-name_asked (Err refusal) file = []
-
-abbrev pub name_of : List (List ℕ) → NamedFile → List ℕ
-name_of words file = name_asked (asked words) file
-
--- the most bytes that the file may have
-abbrev pub limit_of : NamedFile → ℕ
-limit_of Printer = 2 ^ 20
-limit_of Mesh = 64 * 2 ^ 20
-
-abbrev pub Usable : Option (List MemFile) → List (List ℕ) → Type 0
-Usable files words = (text : List ℕ) × Answers files words 0 text
-
--- the mesh isn't one that the printer can be used with
-pub record IsNoMeshFor (d : Description) (bytes : List ℕ) : Type 0 where
-  pub no : (facets : List Facet) → UsesMesh d bytes facets → ⊥
-
-pub record UsesSome (printer : List ℕ) : Type 0 where
+pub record IsSomePrinter (files : Option (List MemFile)) (name : List ℕ) : Type 0 where
   pub description : Description
-  pub uses : UsesPrinter printer description
+  pub is : IsPrinterFile files name description
 
--- the mesh is tested only after a printer that is used
-pub record IsRefusedMesh (printer mesh : List ℕ) : Type 0 where
+-- bytes within the limit that describe no printer
+pub record IsNoPrinterFile (files : Option (List MemFile)) (name : List ℕ) : Type 0 where
+  pub bytes : List ℕ
+  pub gives : GivesFile files name bytes
+  pub short : length bytes ≤ limit_of Printer
+  pub none : IsNoPrinter bytes
+
+abbrev pub IsRefusedPrinter : Option (List MemFile) → List ℕ → Cause → Type 0
+IsRefusedPrinter files name Causes.TooLong = LongerThan (limit_of Printer) files name
+IsRefusedPrinter files name Causes.NotYet = IsNoPrinterFile files name
+IsRefusedPrinter files name (Causes.Stl e) = ⊥
+IsRefusedPrinter files name (Causes.NotClosed edges volume) = ⊥
+IsRefusedPrinter files name Causes.Flat = ⊥
+IsRefusedPrinter files name (Causes.TooTall bands) = ⊥
+
+-- bytes within the limit that the grammar of meshes refuses
+pub record IsNoStl (files : Option (List MemFile)) (name : List ℕ) (e : Stl) : Type 0 where
+  pub bytes : List ℕ
+  pub gives : GivesFile files name bytes
+  pub short : length bytes ≤ limit_of Mesh
+  pub refused : IsRefused bytes e
+
+-- a strict run refuses the mesh, with the two numbers that its line tells
+pub record IsNotClosed (strict : Bool) (facets : List Facet) (edges : ℕ) (volume : ℤ) : Type 0 where
+  pub asked : strict ≡ true
+  pub counted : edges ≡ open_edges facets
+  pub summed : volume ≡ six_volume facets
+  pub refused : IsClosedOutward edges volume → ⊥
+
+-- it is looked at before it is sliced
+abbrev pub IsUnfitFor : Task → List Facet → ℤ → Cause → Type 0
+IsUnfitFor task facets step Causes.TooLong = ⊥
+IsUnfitFor task facets step Causes.NotYet = ⊥
+IsUnfitFor task facets step (Causes.Stl e) = ⊥
+IsUnfitFor task facets step (Causes.NotClosed edges volume) = IsNotClosed (is_strict task) facets edges volume
+IsUnfitFor task facets step Causes.Flat = PassesStrict (is_strict task) facets × (facets ≡ [])
+IsUnfitFor task facets step (Causes.TooTall bands) = PassesStrict (is_strict task) facets × IsTooTall facets step bands
+
+-- a mesh that can't be used
+pub record IsUnfitFile (files : Option (List MemFile)) (a : Asked) (step : ℤ) (c : Cause) : Type 0 where
+  pub facets : List Facet
+  pub dropped : ℕ
+  pub is : IsMeshFile files a.mesh facets dropped
+  pub unfit : IsUnfitFor a.task facets step c
+
+abbrev pub IsRefusedMesh : Option (List MemFile) → Asked → Description → Cause → Type 0
+IsRefusedMesh files a d Causes.TooLong = LongerThan (limit_of Mesh) files a.mesh
+IsRefusedMesh files a d Causes.NotYet = ⊥
+IsRefusedMesh files a d (Causes.Stl e) = IsNoStl files a.mesh e
+IsRefusedMesh files a d (Causes.NotClosed edges volume) = IsUnfitFile files a d.step (Causes.NotClosed edges volume)
+IsRefusedMesh files a d Causes.Flat = IsUnfitFile files a d.step Causes.Flat
+IsRefusedMesh files a d (Causes.TooTall bands) = IsUnfitFile files a d.step (Causes.TooTall bands)
+
+-- the mesh is refused by a printer that can be used
+pub record IsRefusedBy (files : Option (List MemFile)) (a : Asked) (c : Cause) : Type 0 where
   pub description : Description
-  pub uses : UsesPrinter printer description
-  pub short : length mesh ≤ 64 * 2 ^ 20
-  pub unfit : IsNoMeshFor description mesh
+  pub printer : IsPrinterFile files a.printer description
+  pub refused : IsRefusedMesh files a description c
 
-pub record IsRefusedPrinter (printer : List ℕ) : Type 0 where
-  pub short : length printer ≤ 2 ^ 20
-  pub is_none : IsNoPrinter printer
+abbrev pub Refuses : Option (List MemFile) → Asked → NamedFile → Cause → Type 0
+Refuses files a Printer c = IsRefusedPrinter files a.printer c
+Refuses files a Mesh c = IsRefusedBy files a c
 
-pub record IsLongMesh (printer mesh : List ℕ) : Type 0 where
-  pub before : UsesSome printer
-  pub long : 64 * 2 ^ 20 < length mesh
+abbrev pub Reaches : Option (List MemFile) → Asked → NamedFile → Type 0
+Reaches files a Printer = Unit {0}
+Reaches files a Mesh = IsSomePrinter files a.printer
 
-abbrev pub RefusedFor : NamedFile → Cause → List ℕ → List ℕ → Type 0
-RefusedFor Printer TooLong printer mesh = 2 ^ 20 < length printer
-RefusedFor Printer NotYet printer mesh = IsRefusedPrinter printer
-RefusedFor Mesh TooLong printer mesh = IsLongMesh printer mesh
-RefusedFor Mesh NotYet printer mesh = IsRefusedMesh printer mesh
+abbrev pub Explains : Option (List MemFile) → Asked → Stop → Type 0
+Explains files a (Read file) = Reaches files a file
+Explains files a (Input file c) = Refuses files a file c
+Explains files a Memory = Unit {0}
 
--- over the files of a shelf; of one that doesn't tell its files nothing is said
-abbrev pub RefusesNamed : Option (List MemFile) → Asked → NamedFile → Cause → Type 0
-RefusesNamed None a file cause = Unit {0}
-RefusesNamed (Some files) a file cause = RefusedFor file cause (bytes_of files a.printer) (bytes_of files a.mesh)
+-- what a look at a mesh, its slicing, and all of its work stops for: a cause, or want of memory
+abbrev pub IsUnlooked : Bool → List Facet → Stop → Type 0
+IsUnlooked strict facets (Input Mesh (Causes.NotClosed edges volume)) = IsNotClosed strict facets edges volume
+IsUnlooked strict facets Memory = Unit {0}
+IsUnlooked strict facets stop = ⊥
 
-abbrev pub ReachesNamed : Option (List MemFile) → Asked → NamedFile → Type 0
-ReachesNamed None a file = Unit {0}
-ReachesNamed (Some files) a Printer = Unit {0}
-ReachesNamed (Some files) a Mesh = UsesSome (bytes_of files a.printer)
+abbrev pub IsUnsliced : List Facet → ℤ → Stop → Type 0
+IsUnsliced facets step (Input Mesh Causes.Flat) = facets ≡ []
+IsUnsliced facets step (Input Mesh (Causes.TooTall bands)) = IsTooTall facets step bands
+IsUnsliced facets step Memory = Unit {0}
+IsUnsliced facets step stop = ⊥
 
-abbrev RefusesTo : Result Asked WordsRefusal → Option (List MemFile) → NamedFile → Cause → Type 0
-RefusesTo (Ok a) files file cause = RefusesNamed files a file cause
-RefusesTo (Err refusal) files file cause = ⊥
-
-abbrev pub Refuses : Option (List MemFile) → List (List ℕ) → NamedFile → Cause → Type 0
-Refuses files words file cause = RefusesTo (asked words) files file cause
-
-abbrev ReachesTo : Result Asked WordsRefusal → Option (List MemFile) → NamedFile → Type 0
-ReachesTo (Ok a) files file = ReachesNamed files a file
-ReachesTo (Err refusal) files file = ⊥
-
-abbrev pub Reaches : Option (List MemFile) → List (List ℕ) → NamedFile → Type 0
-Reaches files words file = ReachesTo (asked words) files file
-
-abbrev pub Explains : Option (List MemFile) → List (List ℕ) → Stop → Type 0
-Explains files words (Words refusal) = asked words ≡ Err refusal
-Explains files words (Read file) = Reaches files words file
-Explains files words (Input file cause) = Refuses files words file cause
-Explains files words Memory = Unit {0}
-
--- the same where the words are accepted
-abbrev pub ExplainsNamed : Option (List MemFile) → Asked → Stop → Type 0
-ExplainsNamed files a (Words refusal) = ⊥
-ExplainsNamed files a (Read file) = ReachesNamed files a file
-ExplainsNamed files a (Input file cause) = RefusesNamed files a file cause
-ExplainsNamed files a Memory = Unit {0}
+abbrev pub IsUnfit : Task → List Facet → ℤ → Stop → Type 0
+IsUnfit task facets step (Input Mesh c) = IsUnfitFor task facets step c
+IsUnfit task facets step Memory = Unit {0}
+IsUnfit task facets step stop = ⊥

@@ -1,5 +1,7 @@
-pub mod Answers
-pub mod Causes
-pub mod Messages
 pub mod Words
-pub mod Writes
+pub mod Files
+pub mod Causes
+pub mod Texts
+pub mod Messages
+pub mod Answers
+pub mod Runs

@@ -1,45 +1,99 @@
--- The line that goes to `err`, and the status, of each stop.
+-- The line that goes to `err`, and the status, of refused words and of each stop.
 --
---   status_of stop       2 for refused words, 3 for a failed read, 4 for a refused file, 9 for want of memory
---   line_of words stop   the line
-use Rattle.std.specs.Prelude.{ℕ, List, ◌++◌, codes}
-use Rattle.seq_run.specs.Causes.{name_of}
+--   words_line why       the line of refused words
+--   looks_text e v       open edges and six times the volume of a mesh
+--   IsNoteOf name e v d notes   the notes are the line of this mesh where one is due, and else nothing
+--   detail_of file c     the end of the line of a refused file
+--   status_of stop       3 for a failed read, 4 for a refused file, 9 for want of memory
+--   line_of a stop       the line
+use Rattle.std.specs.Prelude.{◌≡◌, ℕ, ℤ, pos, List, [], ◌++◌, codes}
+use Rattle.decimal_lengths.specs.declared.Decimal.{Decimal}
+use Rattle.decimal_lengths.specs.declared.Decimal.TheVariants as Decimals
+use Rattle.mesh_checks.specs.Verdicts.{IsDue}
+use Rattle.seq_num.specs.Spelling.{spelling}
+use Rattle.seq_words.specs.declared.command.Opt.{Opt}
+use Rattle.seq_words.specs.declared.command.Words.{Words}
+use Rattle.stl_text.specs.Grammar.{text_of}
+use Rattle.stl_text.specs.declared.Stl.{Stl}
+use Rattle.stl_text.specs.declared.Stl.TheVariants as Stls
+use Rattle.seq_run.specs.Files.{name_in}
 use Rattle.seq_run.specs.declared.stop.Cause.{Cause}
-use Rattle.seq_run.specs.declared.stop.Cause.TheVariants.{TooLong, NotYet}
+use Rattle.seq_run.specs.declared.stop.Cause.TheVariants as Causes
 use Rattle.seq_run.specs.declared.stop.NamedFile.{NamedFile}
 use Rattle.seq_run.specs.declared.stop.NamedFile.TheVariants.{Printer, Mesh}
 use Rattle.seq_run.specs.declared.stop.Stop.{Stop}
-use Rattle.seq_run.specs.declared.stop.Stop.TheVariants.{Words, Read, Input, Memory}
-use Rattle.seq_run.specs.declared.words.WordsRefusal.{WordsRefusal}
-use Rattle.seq_run.specs.declared.words.WordsRefusal.TheVariants.{Unknown, Usage}
+use Rattle.seq_run.specs.declared.stop.Stop.TheVariants.{Read, Input, Memory}
+use Rattle.seq_run.specs.declared.words.Asked.{Asked}
+use Rattle.seq_run.specs.declared.words.Misworded.{Misworded}
+use Rattle.seq_run.specs.declared.words.Misworded.TheVariants.{Refused, NotBuilt}
 
-abbrev pub status_of : Stop → ℕ
-status_of (Words refusal) = 2
-status_of (Read file) = 3
-status_of (Input file cause) = 4
-status_of Memory = 9
+abbrev pub memory_line : List ℕ
+memory_line = codes "memory\n"
 
-abbrev pub words_line : WordsRefusal → List ℕ
-words_line Unknown = codes "words: unknown command\n"
-words_line Usage = codes "words: usage\n"
+abbrev pub words_line : Misworded → List ℕ
+words_line (Refused Words.Unknown) = codes "words: unknown command\n"
+words_line (Refused Words.Usage) = codes "words: usage\n"
+words_line (Refused (Words.BadNumber Opt.Budget)) = codes "words: bad number for --budget\n"
+words_line (Refused (Words.BadNumber Opt.K)) = codes "words: bad number for K\n"
+words_line (Refused (Words.BadNumber Opt.N)) = codes "words: bad number for N\n"
+words_line (Refused Words.TooMany) = codes "words: more than 16 meshes\n"
+words_line (Refused Words.NoMemory) = memory_line
+words_line NotBuilt = codes "words: not yet\n"
 
--- the end of the line of a refused file
+-- why a word is no length
+abbrev pub decimal_text : Decimal → List ℕ
+decimal_text Decimals.Empty = codes "empty"
+decimal_text Decimals.TooLong = codes "too long"
+decimal_text (Decimals.BadByte place) = codes "bad byte at " ++ spelling (pos place)
+decimal_text Decimals.NoDigit = codes "no digit"
+decimal_text Decimals.TooFar = codes "too far"
+
+-- why bytes are no mesh; want of memory is told by a line of its own
+abbrev pub stl_text : Stl → List ℕ
+stl_text Stls.Binary = codes "binary STL"
+stl_text (Stls.Expected keyword place) = codes "expected " ++ (text_of keyword ++ (codes " at " ++ spelling (pos place)))
+stl_text (Stls.Number place cause) = codes "number at " ++ (spelling (pos place) ++ (codes ": " ++ decimal_text cause))
+stl_text Stls.TooManyFacets = codes "more than 200000 facets"
+stl_text Stls.NoFacet = codes "no facet"
+stl_text Stls.NoMemory = []
+
+unfoldable pub volume_text : ℤ → List ℕ
+volume_text volume = codes ", six volume " ++ spelling volume
+
+unfoldable pub looks_text : ℕ → ℤ → List ℕ
+looks_text edges volume = codes "open edges " ++ (spelling (pos edges) ++ volume_text volume)
+
+unfoldable pub dropped_text : ℕ → List ℕ
+dropped_text dropped = codes ", dropped " ++ (spelling (pos dropped) ++ codes "\n")
+
+abbrev pub note_line : List ℕ → ℕ → ℤ → ℕ → List ℕ
+note_line name edges volume dropped = codes "note: " ++ (name ++ (codes ": " ++ (looks_text edges volume ++ dropped_text dropped)))
+
+pub record IsNoteOf (name : List ℕ) (edges : ℕ) (volume : ℤ) (dropped : ℕ) (notes : List ℕ) : Type 0 where
+  pub due : IsDue edges volume dropped → notes ≡ note_line name edges volume dropped
+  pub none : (IsDue edges volume dropped → ⊥) → notes ≡ []
+
 abbrev pub detail_of : NamedFile → Cause → List ℕ
-detail_of Printer TooLong = codes "longer than 1048576 bytes\n"
-detail_of Mesh TooLong = codes "longer than 67108864 bytes\n"
-detail_of file NotYet = codes "not yet\n"
+detail_of Printer Causes.TooLong = codes "longer than 1048576 bytes"
+detail_of Mesh Causes.TooLong = codes "longer than 67108864 bytes"
+detail_of file Causes.NotYet = codes "not yet"
+detail_of file (Causes.Stl e) = stl_text e
+detail_of file (Causes.NotClosed edges volume) = codes "not a closed outward mesh: " ++ looks_text edges volume
+detail_of file Causes.Flat = codes "no facet is left"
+detail_of file (Causes.TooTall bands) = codes "more than 200 bands: " ++ spelling (pos bands)
 
 abbrev pub read_line : List ℕ → List ℕ
 read_line name = codes "read: " ++ (name ++ codes "\n")
 
 abbrev pub input_line : List ℕ → NamedFile → Cause → List ℕ
-input_line name file cause = codes "input: " ++ (name ++ (codes ": " ++ detail_of file cause))
+input_line name file cause = codes "input: " ++ (name ++ (codes ": " ++ (detail_of file cause ++ codes "\n")))
 
-abbrev pub memory_line : List ℕ
-memory_line = codes "memory\n"
+abbrev pub status_of : Stop → ℕ
+status_of (Read file) = 3
+status_of (Input file cause) = 4
+status_of Memory = 9
 
-abbrev pub line_of : List (List ℕ) → Stop → List ℕ
-line_of words (Words refusal) = words_line refusal
-line_of words (Read file) = read_line (name_of words file)
-line_of words (Input file cause) = input_line (name_of words file) file cause
-line_of words Memory = memory_line
+abbrev pub line_of : Asked → Stop → List ℕ
+line_of a (Read file) = read_line (name_in a file)
+line_of a (Input file cause) = input_line (name_in a file) file cause
+line_of a Memory = memory_line

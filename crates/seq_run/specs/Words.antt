@@ -1,33 +1,44 @@
 -- What the words of a command ask for.
 --
---   texts words      the words as bytes
---   Asked            the names of the files that the words spell
---   asked words      `arrange`, a printer and a mesh; or why the words are refused
-use Rattle.std.specs.Prelude.{ℕ, List, [], ◌∷◌, map, Bool, false, ◌||◌, ◌==◌, if◌then◌else◌, Result, Ok, Err, string_bytes, String, codes}
-use Rattle.std.specs.Str.{bytes_eq}
-use Rattle.std.specs.declared.alloc.Global.{Global}
-use Rattle.seq_run.specs.declared.words.WordsRefusal.{WordsRefusal}
-use Rattle.seq_run.specs.declared.words.WordsRefusal.TheVariants.{Unknown, Usage}
+--   only xs             the only element of a list
+--   is_strict task      the run refuses meshes that aren't closed or don't look outward
+--   request_of command  what a command that is built so far asks for: `arrange` without `--least`, of one mesh, and `slices`
+--   is_built command    the command is answered so far
+--   requested words     what the words ask for, or why they are refused
+use Rattle.std.specs.Prelude.{ℕ, List, [], ◌∷◌, Bool, false, Option, Some, None, is_ok, Result, Ok, Err}
+use Rattle.seq_words.specs.Asked.{asked}
+use Rattle.seq_words.specs.declared.command.Command.{Command}
+use Rattle.seq_words.specs.declared.command.Words.{Words}
+use Rattle.seq_run.specs.declared.words.Asked.{Asked}
+use Rattle.seq_run.specs.declared.words.Misworded.{Misworded}
+use Rattle.seq_run.specs.declared.words.Misworded.TheVariants.{Refused, NotBuilt}
+use Rattle.seq_run.specs.declared.words.Task.{Task}
+use Rattle.seq_run.specs.declared.words.Task.TheVariants as Tasks
 
-abbrev pub texts : List (String Global) → List (List ℕ)
-texts words = map (λ (w : String Global). string_bytes w) words
+abbrev pub only : {A : Type 0} → List A → Option A
+only [] = None
+only (x ∷ []) = Some x
+only (x ∷ y ∷ xs) = None
 
--- the printer description and the mesh that `arrange` names
-pub record Asked : Type 0 where
-  pub printer : List ℕ
-  pub mesh : List ℕ
+abbrev pub is_strict : Task → Bool
+is_strict (Tasks.Arrange strict) = strict
+is_strict Tasks.Slices = false
 
--- a name that begins with `-`, which is 45
-abbrev pub is_option : List ℕ → Bool
-is_option [] = false
-is_option (c ∷ cs) = c == 45
+abbrev pub request_by : Task → List ℕ → Option (List ℕ) → Result Asked Misworded
+request_by task printer (Some mesh) = Ok (record { task = task; printer = printer; mesh = mesh })
+request_by task printer None = Err NotBuilt
 
-abbrev pub names_of : List (List ℕ) → Result Asked WordsRefusal
-names_of [] = Err Usage
-names_of (printer ∷ []) = Err Usage
-names_of (printer ∷ mesh ∷ []) = if is_option printer || is_option mesh then Err Usage else Ok (record { printer = printer; mesh = mesh })
-names_of (printer ∷ mesh ∷ more ∷ words) = Err Usage
+abbrev pub request_of : Command → Result Asked Misworded
+request_of (Command.Arrange false strict budget printer meshes) = request_by (Tasks.Arrange strict) printer (only meshes)
+request_of (Command.Slices printer mesh) = Ok (record { task = Tasks.Slices; printer = printer; mesh = mesh })
+request_of command = Err NotBuilt
 
-abbrev pub asked : List (List ℕ) → Result Asked WordsRefusal
-asked [] = Err Unknown
-asked (word ∷ words) = if bytes_eq word (codes "arrange") then names_of words else Err Unknown
+abbrev pub is_built : Command → Bool
+is_built command = is_ok (request_of command)
+
+abbrev pub requested_by : Result Command Words → Result Asked Misworded
+requested_by (Ok command) = request_of command
+requested_by (Err refusal) = Err (Refused refusal)
+
+abbrev pub requested : List (List ℕ) → Result Asked Misworded
+requested words = requested_by (asked words)

@@ -1,20 +1,26 @@
 //! The top call: words, a shelf of files and two sinks in; a printed plan and a status out.
 //!
-//! `run` does all that the program does. So far it knows `arrange PRINTER STL`, with both files in their first
-//! forms. Its contract is the promise of the program: with status 0 the text that `out` took is the whole text
-//! of a plan that is valid on the plate, for the scene that the bytes of the two files describe. Every other
-//! status has its cause, and the lines on `err` are stated to the byte.
+//! `run` does all that the program does. So far it answers `arrange` for one mesh, with the description in its first form.
+//! Its contract is the promise of the program: with status 0 the text that `out` took is the whole text of a plan that is
+//! valid on the plate, for the scene that the bytes of the two files describe; with status 1 no plan is, and the text has a
+//! certificate that refutes the whole plate. Every other status has its cause, and all that `err` takes is stated to the byte.
 //!
-//! `specs/Answers` says what a text promises, `specs/Causes` when each refusal comes, `specs/Messages` the lines.
+//! `specs/Runs` says what each status promises, `specs/Answers` what a text does, `specs/Causes` when a file is refused,
+//! `specs/Messages` the lines.
 #![tactic(auto)]
 
+mod files;
+mod laws;
 mod messages;
 mod planning;
 mod reading;
+mod slices;
 mod stop;
+mod telling;
+mod texts;
 mod top;
 mod words;
 
 pub use stop::{Cause, NamedFile, Stop};
 pub use top::run;
-pub use words::WordsRefusal;
+pub use words::{Asked, Misworded, Task};

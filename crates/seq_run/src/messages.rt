@@ -1,59 +1,177 @@
-ghost use Rattle.std.specs.Prelude.{◌≡◌, ◌⊎◌, IfOk, IfErr, OnOk, OnErr, MatchResult};
-ghost use Rattle.seq_io.specs.Counts.{HasCause};
-ghost use Rattle.seq_io.specs.Taken.{Grew, TookPart};
-ghost use Rattle.seq_run.specs.Causes.{name_of};
-ghost use Rattle.seq_run.specs.Messages.{status_of, words_line, detail_of, read_line, input_line, line_of};
-ghost use Rattle.seq_run.specs.Words.{texts};
-ghost use Rattle.seq_run.specs.declared.words.WordsRefusal.{WordsRefusal};
+ghost use Rattle.std.specs.Prelude.{◌≡◌, ◌++◌, pos, codes, IfOk, OnOk};
+ghost use Rattle.seq_num.specs.Spelling.{spelling};
+ghost use Rattle.seq_run.specs.Messages.{IsNoteOf, decimal_text, detail_of, dropped_text, input_line, line_of, looks_text, note_line, read_line, status_of, stl_text, volume_text, words_line};
+ghost use Rattle.seq_run.specs.Files.{name_in};
 
-use crate::words::read_words;
-use crate::{Cause, NamedFile, Stop, WordsRefusal};
-use seq_io::{Sink, SinkFault, write_all};
+use crate::texts::put_number;
+use crate::{Asked, Cause, Misworded, NamedFile, Stop};
+use decimal_lengths::Decimal;
+use mesh_checks::Notes;
+use owned_lists::{Items, Text};
+use seq_words::{Opt, Words};
 use std::alloc::{AllocError, Global};
+use stl_text::{Stl, text_of};
 
-/// The status that a stop ends with.
+/// The status that a stop at the files ends with.
 pub fn status_of(stop: Stop) -> u8
     ensures { result ≡ status_of stop }
 {
     match stop {
-        Stop::Words(_) => 2,
         Stop::Read(_) => 3,
         Stop::Input(_, _) => 4,
         Stop::Memory => 9,
     }
 }
 
-fn words_line(refusal: WordsRefusal) -> &'static [u8]
-    ensures { result.now ≡ words_line refusal }
+/// The line of refused words.
+pub fn words_line(why: Misworded) -> &'static [u8]
+    ensures { result.now ≡ words_line why }
 {
-    match refusal {
-        WordsRefusal::Unknown => b"words: unknown command\n",
-        WordsRefusal::Usage => b"words: usage\n",
+    match why {
+        Misworded::Refused(Words::Unknown) => b"words: unknown command\n",
+        Misworded::Refused(Words::Usage) => b"words: usage\n",
+        Misworded::Refused(Words::BadNumber(Opt::Budget)) => b"words: bad number for --budget\n",
+        Misworded::Refused(Words::BadNumber(Opt::K)) => b"words: bad number for K\n",
+        Misworded::Refused(Words::BadNumber(Opt::N)) => b"words: bad number for N\n",
+        Misworded::Refused(Words::TooMany) => b"words: more than 16 meshes\n",
+        Misworded::Refused(Words::NoMemory) => b"memory\n",
+        Misworded::NotBuilt => b"words: not yet\n",
     }
 }
 
-fn detail_of(file: NamedFile, cause: Cause) -> &'static [u8]
-    ensures { result.now ≡ detail_of file cause }
+// Appends why a word is no length.
+fn put_decimal(to: &mut Vec<u8>, cause: Decimal) -> Result<(), AllocError>
+    ensures { OnOk result (to.new.items ≡ to.old.items ++ decimal_text cause) }
 {
     match cause {
-        Cause::NotYet => b"not yet\n",
-        Cause::TooLong => match file {
-            NamedFile::Printer => b"longer than 1048576 bytes\n",
-            NamedFile::Mesh => b"longer than 67108864 bytes\n",
-        },
+        Decimal::Empty => to.extend_from_slice(b"empty"),
+        Decimal::TooLong => to.extend_from_slice(b"too long"),
+        Decimal::BadByte(place) => put_number(to, b"bad byte at ", i128::from(place)),
+        Decimal::NoDigit => to.extend_from_slice(b"no digit"),
+        Decimal::TooFar => to.extend_from_slice(b"too far"),
     }
 }
 
-// The word that names a file; nothing where the words are refused.
-fn name_of(words: &[String], file: NamedFile) -> &str
-    ensures { result.now ≡ name_of (texts words.now) file }
+// Appends a keyword that was expected at a place.
+fn put_expected(to: &mut Vec<u8>, keyword: &str, place: u64) -> Result<(), AllocError>
+    ensures { OnOk result (to.new.items ≡ to.old.items ++ (codes "expected " ++ (keyword.now ++ (codes " at " ++ spelling (pos place))))) }
 {
-    match read_words(words) {
-        Ok(names) => match file {
-            NamedFile::Printer => names.printer,
-            NamedFile::Mesh => names.mesh,
-        },
-        Err(_) => "",
+    to.extend_from_slice(b"expected ")?;
+    to.extend_from_slice(keyword.as_bytes())?;
+    put_number(to, b" at ", i128::from(place))
+}
+
+// Appends the place of a word that is no length, and why.
+fn put_bad_number(to: &mut Vec<u8>, place: u64, cause: Decimal) -> Result<(), AllocError>
+    ensures { OnOk result (to.new.items ≡ to.old.items ++ (codes "number at " ++ (spelling (pos place) ++ (codes ": " ++ decimal_text cause)))) }
+{
+    put_number(to, b"number at ", i128::from(place))?;
+    to.extend_from_slice(b": ")?;
+    put_decimal(to, cause)
+}
+
+// Appends why bytes are no mesh.
+fn put_stl(to: &mut Vec<u8>, e: Stl) -> Result<(), AllocError>
+    ensures { OnOk result (to.new.items ≡ to.old.items ++ stl_text e) }
+{
+    match e {
+        Stl::Binary => to.extend_from_slice(b"binary STL"),
+        Stl::Expected(keyword, place) => put_expected(to, text_of(keyword), place),
+        Stl::Number(place, cause) => put_bad_number(to, place, cause),
+        Stl::TooManyFacets => to.extend_from_slice(b"more than 200000 facets"),
+        Stl::NoFacet => to.extend_from_slice(b"no facet"),
+        Stl::NoMemory => Ok(()),
+    }
+}
+
+// Appends six times the volume.
+#[tactic(auto, unfolding(crate::specs::Messages::volume_text))]
+fn put_volume(to: &mut Vec<u8>, six_volume: i128) -> Result<(), AllocError>
+    ensures { OnOk result (to.new.items ≡ to.old.items ++ volume_text six_volume) }
+{
+    put_number(to, b", six volume ", six_volume)
+}
+
+// Appends open edges and six times the volume.
+#[tactic(auto, unfolding(crate::specs::Messages::looks_text))]
+fn put_looks(to: &mut Vec<u8>, open_edges: u64, six_volume: i128) -> Result<(), AllocError>
+    ensures { OnOk result (to.new.items ≡ to.old.items ++ looks_text open_edges six_volume) }
+{
+    put_number(to, b"open edges ", i128::from(open_edges))?;
+    put_volume(to, six_volume)
+}
+
+// Appends the number of dropped facets, and ends the line.
+#[tactic(auto, unfolding(crate::specs::Messages::dropped_text))]
+fn put_dropped(to: &mut Vec<u8>, dropped: u32) -> Result<(), AllocError>
+    ensures { OnOk result (to.new.items ≡ to.old.items ++ dropped_text dropped) }
+{
+    put_number(to, b", dropped ", i128::from(dropped))?;
+    to.extend_from_slice(b"\n")
+}
+
+// Appends why a strict run refuses a mesh.
+fn put_not_closed(to: &mut Vec<u8>, open_edges: u64, six_volume: i128) -> Result<(), AllocError>
+    ensures { OnOk result (to.new.items ≡ to.old.items ++ (codes "not a closed outward mesh: " ++ looks_text open_edges six_volume)) }
+{
+    to.extend_from_slice(b"not a closed outward mesh: ")?;
+    put_looks(to, open_edges, six_volume)
+}
+
+fn note_line(alloc: Global, name: &str, looks: &Notes) -> Result<Vec<u8>, AllocError>
+    ensures { IfOk result (λ line. line.items ≡ note_line name.now looks.now.open_edges looks.now.six_volume looks.now.dropped) }
+{
+    let mut line = Vec::from_slice(alloc, b"note: ")?;
+    line.extend_from_slice(name.as_bytes())?;
+    line.extend_from_slice(b": ")?;
+    put_looks(&mut line, looks.open_edges, looks.six_volume)?;
+    put_dropped(&mut line, looks.dropped)?;
+    Ok(line)
+}
+
+/// What is noted of a mesh; nothing where no note is due.
+pub fn note_of(alloc: Global, name: &Text, looks: &Notes) -> Result<Items<u8>, AllocError>
+    ensures { IfOk result (IsNoteOf name.now looks.now.open_edges looks.now.six_volume looks.now.dropped) }
+{
+    if !looks.is_due() {
+        return Ok(Items::new(alloc));
+    }
+    Ok(Items::from_vec(note_line(alloc, name.as_str(), looks)?))
+}
+
+// The most bytes that a file may have, as its line says it.
+fn too_long(file: NamedFile) -> &'static [u8]
+    ensures { result.now ≡ detail_of file Cause.TooLong }
+{
+    match file {
+        NamedFile::Printer => b"longer than 1048576 bytes",
+        NamedFile::Mesh => b"longer than 67108864 bytes",
+    }
+}
+
+// Appends why a file is refused.
+fn put_detail(to: &mut Vec<u8>, file: NamedFile, cause: Cause) -> Result<(), AllocError>
+    ensures { OnOk result (to.new.items ≡ to.old.items ++ detail_of file cause) }
+{
+    match cause {
+        Cause::TooLong => to.extend_from_slice(too_long(file)),
+        Cause::NotYet => to.extend_from_slice(b"not yet"),
+        Cause::Stl(e) => put_stl(to, e),
+        Cause::NotClosed {
+            open_edges,
+            six_volume,
+        } => put_not_closed(to, open_edges, six_volume),
+        Cause::Flat => to.extend_from_slice(b"no facet is left"),
+        Cause::TooTall(bands) => put_number(to, b"more than 200 bands: ", i128::from(bands)),
+    }
+}
+
+fn name_in(asked: &Asked, file: NamedFile) -> &Text
+    ensures { result.now ≡ name_in asked.now file }
+{
+    match file {
+        NamedFile::Printer => &asked.printer,
+        NamedFile::Mesh => &asked.mesh,
     }
 }
 
@@ -77,50 +195,18 @@ fn input_line(
     let mut line = Vec::from_slice(alloc, b"input: ")?;
     line.extend_from_slice(name.as_bytes())?;
     line.extend_from_slice(b": ")?;
-    line.extend_from_slice(detail_of(file, cause))?;
+    put_detail(&mut line, file, cause)?;
+    line.extend_from_slice(b"\n")?;
     Ok(line)
 }
 
-// The line of a stop.
-fn line_of(alloc: Global, words: &[String], stop: Stop) -> Result<Vec<u8>, AllocError>
-    ensures { IfOk result (λ line. line.items ≡ line_of (texts words.now) stop) }
+/// The line of a stop at the files.
+pub fn line_of(alloc: Global, asked: &Asked, stop: Stop) -> Result<Vec<u8>, AllocError>
+    ensures { IfOk result (λ line. line.items ≡ line_of asked.now stop) }
 {
     match stop {
-        Stop::Words(refusal) => Vec::from_slice(alloc, words_line(refusal)),
-        Stop::Read(file) => read_line(alloc, name_of(words, file)),
-        Stop::Input(file, cause) => input_line(alloc, name_of(words, file), file, cause),
+        Stop::Read(file) => read_line(alloc, name_in(asked, file).as_str()),
+        Stop::Input(file, cause) => input_line(alloc, name_in(asked, file).as_str(), file, cause),
         Stop::Memory => Vec::from_slice(alloc, b"memory\n"),
-    }
-}
-
-// Writes a line for a stop.
-fn send<E: Sink>(err: &mut E, line: &[u8], stop: Stop) -> Result<Stop, Stop>
-    ensures told { MatchResult result (λ told. told ≡ stop) (λ told. told ≡ stop) }
-    ensures line { OnOk result (Grew (E.taken err.old) (E.taken err.new) line.now) }
-    ensures part { OnErr result (TookPart (E.taken err.old) (E.taken err.new) line.now) }
-    ensures cause { HasCause (E.faults err.old) (E.faults err.new) result }
-{
-    match write_all(err, line) {
-        Ok(()) => Ok(stop),
-        Err(SinkFault) => Err(stop),
-    }
-}
-
-/// Writes the line of a stop, and gives the stop that was told: where its line finds no memory, want of
-/// memory is told in its place, which takes none.
-pub fn tell<E: Sink>(alloc: Global, words: &[String], stop: Stop, err: &mut E) -> Result<Stop, Stop>
-    ensures told { MatchResult result (λ told. (told ≡ stop) ⊎ (told ≡ Stop.Memory)) (λ told. (told ≡ stop) ⊎ (told ≡ Stop.Memory)) }
-    ensures words { (refusal : WordsRefusal) → stop ≡ Stop.Words refusal → MatchResult result (λ told. told ≡ stop) (λ told. told ≡ stop) }
-    ensures line { IfOk result (λ told. Grew (E.taken err.old) (E.taken err.new) (line_of (texts words.now) told)) }
-    ensures part { IfErr result (λ told. TookPart (E.taken err.old) (E.taken err.new) (line_of (texts words.now) told)) }
-    ensures cause { HasCause (E.faults err.old) (E.faults err.new) result }
-{
-    // Refused words are told without memory.
-    if let Stop::Words(refusal) = stop {
-        return send(err, words_line(refusal), stop);
-    }
-    match line_of(alloc, words, stop) {
-        Ok(line) => send(err, &line, stop),
-        Err(_) => send(err, b"memory\n", Stop::Memory),
     }
 }

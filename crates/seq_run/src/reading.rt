@@ -1,9 +1,10 @@
 ghost use Rattle.std.specs.Prelude.{◌≡◌, ◌≤◌, ◌⊎◌, Some, length, IfOk, IfErr, IsErrOf, IsTrue};
 ghost use Rattle.seq_io.specs.Counts.{Rose};
 ghost use Rattle.seq_io.specs.Files.{GivesFile, LongerThan};
-ghost use Rattle.seq_run.specs.Causes.{limit_of};
+ghost use Rattle.seq_run.specs.Files.{limit_of};
 
 use crate::{Cause, NamedFile, Stop};
+use owned_lists::Text;
 use seq_io::{ReadAll, Shelf, read_all};
 use std::alloc::Global;
 
@@ -21,7 +22,7 @@ fn limit_of(file: NamedFile) -> usize
 pub fn read_file<S: Shelf>(
     alloc: Global,
     shelf: &mut S,
-    name: &str,
+    name: &Text,
     file: NamedFile,
 ) -> Result<Vec<u8>, Stop>
     ensures bytes { IfOk result (λ v. GivesFile (S.files shelf.old) name.now v.items) }
@@ -34,7 +35,7 @@ pub fn read_file<S: Shelf>(
     ensures files { S.files shelf.new ≡ S.files shelf.old }
     ensures later { S.faults shelf.old ≤ S.faults shelf.new }
 {
-    let Ok(own_name) = String::from_str(alloc, name) else {
+    let Ok(own_name) = String::from_str(alloc, name.as_str()) else {
         return Err(Stop::Memory);
     };
     match read_all(alloc, shelf, own_name, limit_of(file)) {

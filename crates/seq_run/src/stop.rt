@@ -1,4 +1,4 @@
-use crate::WordsRefusal;
+use stl_text::Stl;
 
 /// A file that the words name.
 #[derive(Clone, Copy, PartialEq, Eq, Debug)]
@@ -7,18 +7,25 @@ pub enum NamedFile {
     Mesh,
 }
 
-/// Why a file is refused for its bytes: it is over its limit, or of a form that isn't read yet, or the object
-/// doesn't fit.
+/// Why a file is refused for its bytes.
 #[derive(Clone, Copy, PartialEq, Eq, Debug)]
 pub enum Cause {
+    /// It is over its limit.
     TooLong,
+    /// A description of a form that isn't read yet.
     NotYet,
+    Stl(Stl),
+    /// A strict run, and edges are open or the volume isn't positive.
+    NotClosed { open_edges: u64, six_volume: i128 },
+    /// No facet of the mesh is left.
+    Flat,
+    /// The mesh has so many bands, more than 200.
+    TooTall(u64),
 }
 
-/// Why a run stops without a plan.
+/// Why a run stops at its files.
 #[derive(Clone, Copy, PartialEq, Eq, Debug)]
 pub enum Stop {
-    Words(WordsRefusal),
     Read(NamedFile),
     Input(NamedFile, Cause),
     Memory,

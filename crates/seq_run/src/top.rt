@@ -1,77 +1,93 @@
-ghost use Rattle.std.specs.Prelude.{◌≡◌, ◌⊎◌, ℕ, List, Ok, Err, Some, IfOk, IfErr, IsErr, IsErrOf, IsTrue};
+ghost use Rattle.std.specs.Prelude.{◌≡◌, ◌⊎◌, ◌≤◌, List, Some, IfOk, IfErr, IsErr, IsErrOf, IsTrue};
 ghost use Rattle.seq_io.specs.Counts.{Rose};
-ghost use Rattle.seq_io.specs.Taken.{Grew};
-ghost use Rattle.seq_run.specs.Answers.{Arranges, Answers};
-ghost use Rattle.seq_run.specs.Causes.{name_in, name_of, Usable, Refuses, Reaches, Explains, ExplainsNamed};
-ghost use Rattle.seq_run.specs.Messages.{words_line, read_line, input_line, memory_line};
-ghost use Rattle.seq_run.specs.Words.{asked, texts};
-ghost use Rattle.seq_run.specs.Writes.{OutBroke, ErrBroke};
-ghost use Rattle.seq_run.specs.declared.stop.Cause.{Cause};
+ghost use Rattle.seq_io.specs.Taken.{Grew, TookPart};
+ghost use Rattle.seq_io.specs.declared.mem_file.MemFile.{MemFile};
+ghost use Rattle.seq_run.specs.Answers.{Answers};
+ghost use Rattle.seq_run.specs.Causes.{Explains};
+ghost use Rattle.seq_run.specs.Files.{name_in};
+ghost use Rattle.seq_run.specs.Messages.{memory_line, words_line};
+ghost use Rattle.seq_run.specs.Runs.{Asks, ErrBroke, HasNoPlan, IsAnswered, IsMisworded, IsRefusedInput, IsUnread, IsUsable, OutBroke, WordsBroke};
+ghost use Rattle.seq_run.specs.Words.{requested};
 ghost use Rattle.seq_run.specs.declared.stop.NamedFile.{NamedFile};
-ghost use Rattle.seq_run.specs.declared.words.WordsRefusal.{WordsRefusal};
+ghost use Rattle.seq_words.specs.Usages.{texts};
+ghost use Rattle.seq_words.specs.declared.command.Words.{Words};
 
-use crate::messages::{status_of, tell};
-use crate::planning::{Unplanned, arrange};
-use crate::reading::read_file;
-use crate::words::{Names, read_words};
-use crate::{Cause, NamedFile, Stop};
-use first_forms::{Unread, one_description, one_mesh, read_description, read_mesh};
+use crate::files::{read_printer, read_solid};
+use crate::laws::{a_found_plan_is_one, refused_files_are_unusable};
+use crate::messages::{status_of, words_line};
+use crate::planning::{Answer, arrange_mesh, slice_mesh};
+use crate::telling::{deliver, tell};
+use crate::words::request;
+use crate::{Asked, Misworded, Stop, Task};
 use seq_io::{Shelf, Sink, write_all};
+use seq_words::Words;
 use std::alloc::Global;
 
-// Why a file that was read is refused.
-fn refused(file: NamedFile, cause: Unread) -> Stop
-    ensures not_yet { cause ≡ Unread.NotYet → result ≡ Stop.Input file Cause.NotYet }
-    ensures memory { cause ≡ Unread.NoMemory → result ≡ Stop.Memory }
+// What the files that the words name give.
+fn work<S: Shelf>(alloc: Global, asked: &Asked, shelf: &mut S) -> Result<Answer, Stop>
+    ensures answers { IfOk result (λ answer. Answers (S.files shelf.old) asked.now answer.status answer.notes answer.text) }
+    ensures status { IfOk result (λ answer. answer.status ≤ 1) }
+    ensures why { IfErr result (Explains (S.files shelf.old) asked.now) }
+    ensures fault { (file : NamedFile) → IsErrOf result (Stop.Read file) → Rose (S.faults shelf.old) (S.faults shelf.new) }
+    ensures broken { (file : NamedFile) → IsErrOf result (Stop.Read file) → IsTrue (S.broken shelf.new) }
+    ensures named { (file : NamedFile) → IsErrOf result (Stop.Read file) → S.named shelf.new ≡ Some (name_in asked.now file) }
 {
-    match cause {
-        Unread::NotYet => Stop::Input(file, Cause::NotYet),
-        Unread::NoMemory => Stop::Memory,
+    let printer = read_printer(alloc, asked, shelf)?;
+    let mesh = read_solid(alloc, asked, &printer, shelf)?;
+    match asked.task {
+        Task::Arrange { strict } => arrange_mesh(alloc, strict, &asked.mesh, &mesh, printer),
+        Task::Slices => slice_mesh(alloc, &asked.mesh, &mesh, &printer),
     }
 }
 
-// The text of the plan of the files of these names.
-fn arrange_named<S: Shelf>(alloc: Global, names: &Names<'_>, shelf: &mut S) -> Result<Vec<u8>, Stop>
-    ensures found { IfOk result (λ text. Arranges (S.files shelf.old) (record { printer = names.now.printer.now; mesh = names.now.mesh.now }) text.items) }
-    ensures why { IfErr result (ExplainsNamed (S.files shelf.old) (record { printer = names.now.printer.now; mesh = names.now.mesh.now })) }
-    ensures fault { (file : NamedFile) → IsErrOf result (Stop.Read file) → Rose (S.faults shelf.old) (S.faults shelf.new) }
-    ensures broken { (file : NamedFile) → IsErrOf result (Stop.Read file) → IsTrue (S.broken shelf.new) }
-    ensures named { (file : NamedFile) → IsErrOf result (Stop.Read file) → S.named shelf.new ≡ Some (name_in (record { printer = names.now.printer.now; mesh = names.now.mesh.now }) file) }
+// Writes the line of refused words, which takes no memory.
+fn refuse<E: Sink>(why: Misworded, err: &mut E) -> u8
+    ensures statuses { (result ≡ 2) ⊎ (result ≡ 8) ⊎ (result ≡ 9) }
+    ensures words { result ≡ 2 → Grew (E.taken err.old) (E.taken err.new) (words_line why) }
+    ensures memory { result ≡ 9 → Grew (E.taken err.old) (E.taken err.new) memory_line }
+    ensures only { result ≡ 2 → why ≡ Misworded.Refused Words.NoMemory → ⊥ }
+    ensures broke { result ≡ 8 → TookPart (E.taken err.old) (E.taken err.new) (words_line why) }
+    ensures cause { result ≡ 8 → Rose (E.faults err.old) (E.faults err.new) }
 {
-    let bytes = read_file(alloc, shelf, names.printer, NamedFile::Printer)?;
-    let printer = match read_description(alloc, &bytes) {
-        Ok(printer) => printer,
-        Err(cause) => return Err(refused(NamedFile::Printer, cause)),
-    };
-    let bytes = read_file(alloc, shelf, names.mesh, NamedFile::Mesh)?;
-    let mesh = match read_mesh(alloc, &bytes) {
-        Ok(mesh) => mesh,
-        Err(cause) => return Err(refused(NamedFile::Mesh, cause)),
-    };
-    // laws: that no other description and no other mesh could be meant
-    one_description();
-    one_mesh();
-    match arrange(alloc, &printer, &mesh) {
-        Ok(text) => Ok(text),
-        Err(Unplanned::NotYet) => Err(Stop::Input(NamedFile::Mesh, Cause::NotYet)),
-        Err(Unplanned::NoMemory) => Err(Stop::Memory),
+    if write_all(err, words_line(why)).is_err() {
+        return 8;
+    }
+    match why {
+        Misworded::Refused(Words::NoMemory) => 9,
+        _ => 2,
     }
 }
 
-// The text of the plan that the words ask for.
-fn work<S: Shelf>(alloc: Global, words: &[String], shelf: &mut S) -> Result<Vec<u8>, Stop>
-    ensures found { IfOk result (λ text. Answers (S.files shelf.old) (texts words.now) 0 text.items) }
-    ensures why { IfErr result (Explains (S.files shelf.old) (texts words.now)) }
-    ensures words { (refusal : WordsRefusal) → asked (texts words.now) ≡ Err refusal → IsErrOf result (Stop.Words refusal) }
-    ensures fault { (file : NamedFile) → IsErrOf result (Stop.Read file) → Rose (S.faults shelf.old) (S.faults shelf.new) }
-    ensures broken { (file : NamedFile) → IsErrOf result (Stop.Read file) → IsTrue (S.broken shelf.new) }
-    ensures named { (file : NamedFile) → IsErrOf result (Stop.Read file) → S.named shelf.new ≡ Some (name_of (texts words.now) file) }
+// Does what the words ask for, writes what comes of it, and gives the status.
+fn answer<S: Shelf, O: Sink, E: Sink>(
+    alloc: Global,
+    asked: &Asked,
+    shelf: &mut S,
+    out: &mut O,
+    err: &mut E,
+) -> u8
+    ensures statuses { (result ≡ 0) ⊎ (result ≡ 1) ⊎ (result ≡ 3) ⊎ (result ≡ 4) ⊎ (result ≡ 8) ⊎ (result ≡ 9) }
+    ensures found { result ≡ 0 → IsAnswered 0 (S.files shelf.old) asked.now (E.taken err.old) (E.taken err.new) (O.taken out.old) (O.taken out.new) }
+    ensures none { result ≡ 1 → IsAnswered 1 (S.files shelf.old) asked.now (E.taken err.old) (E.taken err.new) (O.taken out.old) (O.taken out.new) }
+    ensures read { result ≡ 3 → IsUnread (S.files shelf.old) asked.now (S.named shelf.new) (E.taken err.old) (E.taken err.new) }
+    ensures fault { result ≡ 3 → Rose (S.faults shelf.old) (S.faults shelf.new) }
+    ensures broken { result ≡ 3 → IsTrue (S.broken shelf.new) }
+    ensures input { result ≡ 4 → IsRefusedInput (S.files shelf.old) asked.now (E.taken err.old) (E.taken err.new) }
+    ensures write { result ≡ 8 → (ErrBroke (S.files shelf.old) asked.now (E.taken err.old) (E.taken err.new) (E.faults err.old) (E.faults err.new) × (O.taken out.new ≡ O.taken out.old))
+        ⊎ OutBroke (S.files shelf.old) asked.now (E.taken err.old) (E.taken err.new) (O.taken out.old) (O.taken out.new) (O.faults out.old) (O.faults out.new) }
+    ensures memory { result ≡ 9 → Grew (E.taken err.old) (E.taken err.new) memory_line }
+    ensures silent { (result ≡ 3) ⊎ (result ≡ 4) ⊎ (result ≡ 9) → O.taken out.new ≡ O.taken out.old }
 {
-    let names = match read_words(words) {
-        Ok(names) => names,
-        Err(refusal) => return Err(Stop::Words(refusal)),
-    };
-    arrange_named(alloc, &names, shelf)
+    match work(alloc, asked, shelf) {
+        Ok(answer) => match deliver(&answer, out, err) {
+            Ok(()) => answer.status,
+            Err(_) => 8,
+        },
+        Err(stop) => match tell(alloc, asked, stop, err) {
+            Ok(told) => status_of(told),
+            Err(_) => 8,
+        },
+    }
 }
 
 /// All that the program does, with its exit status.
@@ -84,40 +100,46 @@ pub fn run<S: Shelf, O: Sink, E: Sink>(
     out: &mut O,
     err: &mut E,
 ) -> u8
-    ensures statuses { (result ≡ 0) ⊎ (result ≡ 2) ⊎ (result ≡ 3) ⊎ (result ≡ 4) ⊎ (result ≡ 8) ⊎ (result ≡ 9) }
+    ensures statuses { (result ≡ 0) ⊎ (result ≡ 1) ⊎ (result ≡ 2) ⊎ (result ≡ 3) ⊎ (result ≡ 4) ⊎ (result ≡ 8) ⊎ (result ≡ 9) }
 
-    // 0: `out` took the whole text of a plan that is valid on the plate, and `err` nothing.
-    ensures found { result ≡ 0 → (text : List ℕ) × Answers (S.files shelf.old) (texts words.now.items) 0 text × Grew (O.taken out.old) (O.taken out.new) text }
-    ensures quiet { result ≡ 0 → E.taken err.new ≡ E.taken err.old }
+    // 0: `err` took the notes, and then `out` the whole text of a plan that is valid on the plate.
+    ensures found { result ≡ 0 → Asks (texts words.now.items) (λ a. IsAnswered 0 (S.files shelf.old) a (E.taken err.old) (E.taken err.new) (O.taken out.old) (O.taken out.new)) }
 
-    // 2: exactly where the words are refused.
-    ensures words { result ≡ 2 → (refusal : WordsRefusal) × (asked (texts words.now.items) ≡ Err refusal) × Grew (E.taken err.old) (E.taken err.new) (words_line refusal) }
-    ensures words_always { IsErr (asked (texts words.now.items)) → (result ≡ 2) ⊎ (result ≡ 8) }
+    // 1: exactly where no plan is valid; `err` took the notes, and then `out` the text that says so, with a certificate.
+    ensures none { result ≡ 1 → Asks (texts words.now.items) (λ a. IsAnswered 1 (S.files shelf.old) a (E.taken err.old) (E.taken err.new) (O.taken out.old) (O.taken out.new)) }
+
+    ensures none_always { (files : List MemFile) → S.files shelf.old ≡ Some files → Asks (texts words.now.items) (HasNoPlan (Some files)) → (result ≡ 1) ⊎ (result ≡ 3) ⊎ (result ≡ 8) ⊎ (result ≡ 9) }
+
+    // 2: exactly where the words are refused, or what they ask for isn't built; no file is started.
+    ensures words { result ≡ 2 → IsMisworded (texts words.now.items) (E.taken err.old) (E.taken err.new) }
+    ensures words_always { IsErr (requested (texts words.now.items)) → (result ≡ 2) ⊎ (result ≡ 8) ⊎ (result ≡ 9) }
+    ensures words_only { result ≡ 2 → S.named shelf.new ≡ S.named shelf.old }
 
     // 3: only where the shelf failed at a file that the words name, once those before it were found usable.
-    ensures read { result ≡ 3 → (file : NamedFile) × (S.named shelf.new ≡ Some (name_of (texts words.now.items) file)) × Reaches (S.files shelf.old) (texts words.now.items) file
-        × Grew (E.taken err.old) (E.taken err.new) (read_line (name_of (texts words.now.items) file)) }
+    ensures read { result ≡ 3 → Asks (texts words.now.items) (λ a. IsUnread (S.files shelf.old) a (S.named shelf.new) (E.taken err.old) (E.taken err.new)) }
     ensures fault { result ≡ 3 → Rose (S.faults shelf.old) (S.faults shelf.new) }
     ensures broken { result ≡ 3 → IsTrue (S.broken shelf.new) }
 
     // 4: exactly where the first file in word order that can't be used is refused for its bytes.
-    ensures input { result ≡ 4 → (file : NamedFile) × (cause : Cause) × Refuses (S.files shelf.old) (texts words.now.items) file cause
-        × Grew (E.taken err.old) (E.taken err.new) (input_line (name_of (texts words.now.items) file) file cause) }
-    ensures input_always { (Usable (S.files shelf.old) (texts words.now.items) → ⊥) → (result ≡ 2) ⊎ (result ≡ 3) ⊎ (result ≡ 4) ⊎ (result ≡ 8) ⊎ (result ≡ 9) }
+    ensures input { result ≡ 4 → Asks (texts words.now.items) (λ a. IsRefusedInput (S.files shelf.old) a (E.taken err.old) (E.taken err.new)) }
+    ensures input_always { (Asks (texts words.now.items) (IsUsable (S.files shelf.old)) → ⊥) → (result ≡ 2) ⊎ (result ≡ 3) ⊎ (result ≡ 4) ⊎ (result ≡ 8) ⊎ (result ≡ 9) }
 
-    // 8: only where a sink failed within its text; the other one took nothing.
-    ensures write { result ≡ 8 → (OutBroke (S.files shelf.old) (texts words.now.items) (O.taken out.old) (O.taken out.new) (O.faults out.old) (O.faults out.new) × (E.taken err.new ≡ E.taken err.old))
-        ⊎ (ErrBroke (S.files shelf.old) (texts words.now.items) (E.taken err.old) (E.taken err.new) (E.faults err.old) (E.faults err.new) × (O.taken out.new ≡ O.taken out.old)) }
+    ensures input_only { (files : List MemFile) → S.files shelf.old ≡ Some files → result ≡ 4 → Asks (texts words.now.items) (IsUsable (Some files)) → ⊥ }
+
+    // 8: only where a sink failed within its text; `out` is written after `err`.
+    ensures write { result ≡ 8 → (WordsBroke (texts words.now.items) (E.taken err.old) (E.taken err.new) (E.faults err.old) (E.faults err.new) × (O.taken out.new ≡ O.taken out.old))
+        ⊎ (Asks (texts words.now.items) (λ a. ErrBroke (S.files shelf.old) a (E.taken err.old) (E.taken err.new) (E.faults err.old) (E.faults err.new)) × (O.taken out.new ≡ O.taken out.old))
+        ⊎ Asks (texts words.now.items) (λ a. OutBroke (S.files shelf.old) a (E.taken err.old) (E.taken err.new) (O.taken out.old) (O.taken out.new) (O.faults out.old) (O.faults out.new)) }
 
     // 9: want of memory.
     ensures memory { result ≡ 9 → Grew (E.taken err.old) (E.taken err.new) memory_line }
     ensures silent { (result ≡ 2) ⊎ (result ≡ 3) ⊎ (result ≡ 4) ⊎ (result ≡ 9) → O.taken out.new ≡ O.taken out.old }
 {
-    match work(alloc, words, shelf) {
-        Ok(text) => { if write_all(out, &text).is_err() { 8 } else { 0 } }
-        Err(stop) => match tell(alloc, words, stop, err) {
-            Ok(told) => status_of(told),
-            Err(_) => 8,
-        },
+    // laws: what files can't be at once
+    refused_files_are_unusable();
+    a_found_plan_is_one();
+    match request(alloc, words) {
+        Ok(asked) => answer(alloc, &asked, shelf, out, err),
+        Err(why) => refuse(why, err),
     }
 }

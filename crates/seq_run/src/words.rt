@@ -1,38 +1,95 @@
-ghost use Rattle.std.specs.Prelude.{◌≡◌, Ok, Err, IfOk, IfErr};
-ghost use Rattle.seq_run.specs.Words.{asked, texts};
+ghost use Rattle.std.specs.Prelude.{◌≡◌, ◌⊎◌, ℕ, Ok, Err, IfOk, IfErr};
+ghost use Rattle.seq_words.specs.declared.command.Command.{Command};
+ghost use Rattle.seq_words.specs.Usages.{texts};
+ghost use Rattle.seq_words.specs.declared.command.Words.{Words};
+ghost use Rattle.seq_run.specs.Words.{only, request_of, requested};
 
-/// Why the words are refused: their first isn't a command, or the rest isn't what the command takes.
+use owned_lists::{Items, Text};
+use seq_words::{Command, Words, read};
+use std::alloc::Global;
+
+/// Why the words give nothing to do: they are refused, or their command isn't built yet.
 #[derive(Clone, Copy, PartialEq, Eq, Debug)]
-pub enum WordsRefusal {
-    Unknown,
-    Usage,
+pub enum Misworded {
+    /// Want of memory among the causes.
+    Refused(Words),
+    NotBuilt,
 }
 
-/// The names that the words give.
-#[derive(Clone, Copy)]
-pub struct Names<'a> {
-    pub printer: &'a str,
-    pub mesh: &'a str,
+/// What is to be done with a printer and a mesh.
+#[derive(Clone, Copy, PartialEq, Eq, Debug)]
+pub enum Task {
+    /// A strict run refuses a mesh that isn't closed or doesn't look outward.
+    Arrange { strict: bool },
+    Slices,
 }
 
-/// The names that `arrange PRINTER STL` gives.
-pub fn read_words(words: &[String]) -> Result<Names<'_>, WordsRefusal>
-    ensures ok { IfOk result (λ names. asked (texts words.now) ≡ Ok (record { printer = names.printer.now; mesh = names.mesh.now })) }
-    ensures err { IfErr result (λ refusal. asked (texts words.now) ≡ Err refusal) }
+/// What the words ask for, and the files that they name.
+#[derive(Debug, Drop)]
+pub struct Asked {
+    pub task: Task,
+    pub printer: Text,
+    pub mesh: Text,
+}
+
+// The only one of some names.
+fn only(names: Items<Text>) -> Option<Text>
+    ensures { result ≡ only names }
 {
-    let Some(command) = words.first() else {
-        return Err(WordsRefusal::Unknown);
-    };
-    if command.as_str() != "arrange" {
-        return Err(WordsRefusal::Unknown);
+    let mut names = names.into_vec();
+    if names.len() == 1 { names.pop() } else { None }
+}
+
+// What `arrange` asks for: so far one mesh, and not the least extent.
+fn request_to_arrange(
+    least: bool,
+    strict: bool,
+    printer: Text,
+    meshes: Items<Text>,
+) -> Result<Asked, Misworded>
+    ensures { (budget : ℕ) → result ≡ request_of (Command.Arrange least strict budget printer meshes) }
+{
+    if least {
+        return Err(Misworded::NotBuilt);
     }
-    if words.len() != 3 {
-        return Err(WordsRefusal::Usage);
+    match only(meshes) {
+        Some(mesh) => Ok(Asked {
+            task: Task::Arrange { strict },
+            printer,
+            mesh,
+        }),
+        None => Err(Misworded::NotBuilt),
     }
-    let printer = words[1].as_str();
-    let mesh = words[2].as_str();
-    if printer.starts_with('-') || mesh.starts_with('-') {
-        return Err(WordsRefusal::Usage);
+}
+
+// What a command asks for, if it is built.
+fn request_of(command: Command) -> Result<Asked, Misworded>
+    ensures { result ≡ request_of command }
+{
+    match command {
+        Command::Arrange {
+            least,
+            strict,
+            budget: _,
+            printer,
+            meshes,
+        } => request_to_arrange(least, strict, printer, meshes),
+        Command::Slices { printer, mesh } => Ok(Asked {
+            task: Task::Slices,
+            printer,
+            mesh,
+        }),
+        _ => Err(Misworded::NotBuilt),
     }
-    Ok(Names { printer, mesh })
+}
+
+/// What the words ask for.
+pub fn request(alloc: Global, words: &[String]) -> Result<Asked, Misworded>
+    ensures asked { IfOk result (λ a. requested (texts words.now) ≡ Ok a) }
+    ensures refused { IfErr result (λ why. (why ≡ Misworded.Refused Words.NoMemory) ⊎ (requested (texts words.now) ≡ Err why)) }
+{
+    match read(alloc, words) {
+        Ok(command) => request_of(command),
+        Err(refusal) => Err(Misworded::Refused(refusal)),
+    }
 }

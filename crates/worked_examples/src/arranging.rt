@@ -1,66 +1,168 @@
-use crate::meshes::{block, blocks};
-use seq_io::{MemFile, MemShelf, MemSink, ReadAll, Shelf, read_all};
-use seq_run::run;
-use std::alloc::Global;
+use crate::meshes::{block, blocks, cube_with_a_dropped_facet, exported_cube, open_cube};
+use crate::runs::{PLATE, run_in_memory};
+use seq_io::{MemFile, MemShelf, ReadAll, Shelf, read_all};
 use std::test::Fail;
-
-const PLATE: &[u8] =
-    b"format = 1\ngrain = 1\nplate = [100, 100]\nstep = 10\nmargin = 1\ngrid = 100\n";
 
 const SMALL_PLATE: &[u8] =
     b"format = 1\ngrain = 1\nplate = [20, 20]\nstep = 10\nmargin = 1\ngrid = 100\n";
 
+const FLAT_PLATE: &[u8] =
+    b"format = 1\ngrain = 1\nplate = [100, 21]\nstep = 10\nmargin = 1\ngrid = 50\n";
+
 const PARTS: &[u8] =
     b"format = 1\ngrain = 1\nplate = [100, 100]\nstep = 10\nmargin = 1\ngrid = 100\n\n[[part]]\nname = \"nozzle\"\nfrom = 0\ncorners = [[-2, -2], [2, -2], [2, 2], [-2, 2]]\n";
 
-// a whole mesh, but for one number that isn't whole
-const HALF: &[u8] =
-    b"solid c\nfacet normal 0 0 0\nouter loop\nvertex 0 0 1.5\nvertex 20 0 0\nvertex 0 20 20\nendloop\nendfacet\nendsolid c\n";
-
 const PLAN: &[u8] = b"seqplan 1\nstate found\ngrid 100\nextent 100\nscale 1\nplace 0 1 1\n";
 
-#[derive(Drop)]
-struct Outcome {
-    status: u8,
-    out: MemSink,
-    err: MemSink,
+#[test]
+fn one_mesh_has_a_plan_or_a_certificate(rt: HostRuntime) -> Result<(), Fail> {
+    let alloc = rt.alloc();
+    let words = ["arrange", "--budget=1", "p0.toml", "a.stl"];
+    let cases = [
+        (PLATE, block(alloc, 20, 20, 20)?, 0, PLAN),
+        (PLATE, exported_cube(alloc)?, 0, PLAN),
+        // 200 bands
+        (PLATE, block(alloc, 20, 20, 2_000)?, 0, PLAN),
+        (
+            SMALL_PLATE,
+            block(alloc, 20, 20, 20)?,
+            1,
+            b"seqplan 1\nstate none\ngrid 100\ncertificate 1\nexcludes 100\nbound 0:1\n",
+        ),
+        // 22 grains are too deep for 21
+        (
+            FLAT_PLATE,
+            block(alloc, 20, 20, 20)?,
+            1,
+            b"seqplan 1\nstate none\ngrid 50\ncertificate 1\nexcludes 50\nbound 1:1\n",
+        ),
+    ];
+    for (printer, mesh, status, text) in cases {
+        let done = run_in_memory(alloc, printer, "a.stl", mesh, &words, &[], &[])?;
+        assert_eq!(rt; done.status, status);
+        assert_eq!(rt; done.out.taken(), text);
+        assert_eq!(rt; done.err.taken(), b"".as_slice());
+    }
+    Ok(())
 }
 
-// A run over a printer `p0.toml` and a mesh `cube.stl` in memory.
-fn run_in_memory(
-    alloc: Global,
-    printer: &[u8],
-    mesh: Vec<u8>,
-    words: &[&str],
-    failing_reads: &[u64],
-    failing_writes: &[u64],
-) -> Result<Outcome, Fail> {
-    let mut files = Vec::new(alloc);
-    files.push(MemFile::new(
-        String::from_str(alloc, "p0.toml")?,
-        Vec::from_slice(alloc, printer)?,
-    ))?;
-    files.push(MemFile::new(String::from_str(alloc, "cube.stl")?, mesh))?;
-    let mut shelf = MemShelf::new(files, 1 << 20, Vec::from_slice(alloc, failing_reads)?);
-    let mut out = MemSink::new(alloc, 4096, 10, Vec::from_slice(alloc, failing_writes)?)?;
-    let mut err = MemSink::new(alloc, 4096, 4096, Vec::new(alloc))?;
-    let mut own_words = Vec::new(alloc);
-    for word in words {
-        own_words.push(String::from_str(alloc, word)?)?;
+const NONE: &[u8] = b"seqplan 1\nstate none\ngrid 100\ncertificate 1\nexcludes 100\nbound 0:1\n";
+
+// A facet of 1.5 mm, 20 mm and 20 mm, that is seen from outside and from inside.
+const OUTWARD: &[u8] =
+    b"solid\nfacet normal 0 0 0 outer loop vertex 0 0 1.5 vertex 20 0 0 vertex 0 20 20 endloop endfacet endsolid";
+
+const INWARD: &[u8] =
+    b"solid\nfacet normal 0 0 0 outer loop vertex 0 0 1.5 vertex 0 20 20 vertex 20 0 0 endloop endfacet endsolid";
+
+const OPEN: &[u8] = b"note: a.stl: open edges 3, six volume 48000000000000, dropped 0\n";
+
+const DROPPED: &[u8] = b"note: a.stl: open edges 0, six volume 48000000000000, dropped 1\n";
+
+#[test]
+fn a_mesh_that_is_open_inverted_or_cleaned_is_noted(rt: HostRuntime) -> Result<(), Fail> {
+    let alloc = rt.alloc();
+    let words = ["arrange", "p0.toml", "a.stl"];
+    let cases = [
+        (PLATE, open_cube(alloc)?, 0, PLAN, OPEN),
+        (SMALL_PLATE, open_cube(alloc)?, 1, NONE, OPEN),
+        (PLATE, cube_with_a_dropped_facet(alloc)?, 0, PLAN, DROPPED),
+        (
+            PLATE,
+            Vec::from_slice(alloc, OUTWARD)?,
+            0,
+            PLAN,
+            b"note: a.stl: open edges 3, six volume 600000000000, dropped 0\n",
+        ),
+    ];
+    for (printer, mesh, status, text, line) in cases {
+        let done = run_in_memory(alloc, printer, "a.stl", mesh, &words, &[], &[])?;
+        assert_eq!(rt; done.status, status);
+        assert_eq!(rt; done.out.taken(), text);
+        assert_eq!(rt; done.err.taken(), line);
     }
-    let status = run(alloc, &own_words, &mut shelf, &mut out, &mut err);
-    Ok(Outcome { status, out, err })
+    Ok(())
 }
 
 #[test]
-fn a_cube_stands_at_the_low_corner_of_its_plate(rt: HostRuntime) -> Result<(), Fail> {
+fn a_strict_run_refuses_what_is_open_or_inverted(rt: HostRuntime) -> Result<(), Fail> {
     let alloc = rt.alloc();
-    let words = ["arrange", "p0.toml", "cube.stl"];
-    let cube = block(alloc, 20, 20, 20)?;
-    let done = run_in_memory(alloc, PLATE, cube, &words, &[], &[])?;
-    assert_eq!(rt; done.status, 0);
-    assert_eq!(rt; done.out.taken(), PLAN);
-    assert_eq!(rt; done.err.taken(), b"".as_slice());
+    let words = ["arrange", "p0.toml", "--strict", "a.stl"];
+    let cases = [
+        (block(alloc, 20, 20, 20)?, 0, PLAN, b"".as_slice()),
+        (cube_with_a_dropped_facet(alloc)?, 0, PLAN, DROPPED),
+        (
+            open_cube(alloc)?,
+            4,
+            b"",
+            b"input: a.stl: not a closed outward mesh: open edges 3, six volume 48000000000000\n",
+        ),
+        (
+            Vec::from_slice(alloc, INWARD)?,
+            4,
+            b"",
+            b"input: a.stl: not a closed outward mesh: open edges 3, six volume -600000000000\n",
+        ),
+    ];
+    for (mesh, status, text, line) in cases {
+        let done = run_in_memory(alloc, PLATE, "a.stl", mesh, &words, &[], &[])?;
+        assert_eq!(rt; done.status, status);
+        assert_eq!(rt; done.out.taken(), text);
+        assert_eq!(rt; done.err.taken(), line);
+    }
+    Ok(())
+}
+
+// Meshes as text, and what the line on `err` says of them.
+static MESHES: [(&[u8], &[u8]); 6] = [
+    (b"solid\nendsolid\n", b"input: a.stl: no facet\n"),
+    (
+        b"solid s facet\nfacet normal 0 0 0 outer loop vertex 0 0 0 vertex 0 0 0 vertex 1 1 1 endloop endfacet\nendsolid",
+        b"input: a.stl: no facet is left\n",
+    ),
+    // cut within the third vertex, at byte 74
+    (
+        b"solid c\nfacet normal 0 0 1\nouter loop\nvertex 0 0 0\nvertex 1 0 0\nvertex 1 1",
+        b"input: a.stl: number at 74: empty\n",
+    ),
+    (
+        b"solid c\nfacet normal 0 0 1\nouter loop\nvertex 0 0 1,5\n",
+        b"input: a.stl: number at 49: bad byte at 1\n",
+    ),
+    (
+        b"solid c\nfacet 0 0 1\n",
+        b"input: a.stl: expected normal at 14\n",
+    ),
+    (
+        b"solid c\nvertex",
+        b"input: a.stl: expected facet or endsolid at 8\n",
+    ),
+];
+
+#[test]
+fn a_file_that_can_not_be_used_is_told_in_one_line(rt: HostRuntime) -> Result<(), Fail> {
+    let alloc = rt.alloc();
+    let words = ["arrange", "p0.toml", "a.stl"];
+    // 84 + 50 * 12 bytes, with the number 12 at byte 80
+    let mut binary = Vec::from_slice(alloc, b"solid")?;
+    binary.resize(684, 0)?;
+    binary[80] = 12;
+    let mut cases = vec![in alloc;
+        (PLATE, binary, b"input: a.stl: binary STL\n".as_slice()),
+        // a height of 2,010 mm in bands of 10 mm
+        (PLATE, block(alloc, 20, 20, 2_010)?, b"input: a.stl: more than 200 bands: 201\n"),
+        // with parts the description is of another form
+        (PARTS, block(alloc, 20, 20, 20)?, b"input: p0.toml: not yet\n"),
+    ]?;
+    for (mesh, line) in &MESHES {
+        cases.push((PLATE, Vec::from_slice(alloc, mesh)?, line))?;
+    }
+    for (printer, mesh, line) in cases {
+        let done = run_in_memory(alloc, printer, "a.stl", mesh, &words, &[], &[])?;
+        assert_eq!(rt; done.status, 4);
+        assert_eq!(rt; done.err.taken(), line);
+        assert_eq!(rt; done.out.taken(), b"".as_slice());
+    }
     Ok(())
 }
 
@@ -68,23 +170,16 @@ fn a_cube_stands_at_the_low_corner_of_its_plate(rt: HostRuntime) -> Result<(), F
 #[test]
 fn large_files_are_read_or_too_long(rt: HostRuntime) -> Result<(), Fail> {
     let alloc = rt.alloc();
-    let words = ["arrange", "p0.toml", "cube.stl"];
-    let done = run_in_memory(
-        alloc,
-        PLATE,
-        blocks(alloc, 200, 20, 20, 20)?,
-        &words,
-        &[],
-        &[],
-    )?;
+    let words = ["arrange", "p0.toml", "a.stl"];
+    let many = blocks(alloc, 200, 20, 20, 20)?;
+    let done = run_in_memory(alloc, PLATE, "a.stl", many, &words, &[], &[])?;
     assert_eq!(rt; done.status, 0);
     assert_eq!(rt; done.out.taken(), PLAN);
     // a description of 1 MiB and a byte
     let mut long = Vec::new(alloc);
-    for _ in 0..1_048_577 {
-        long.push(b'#')?;
-    }
-    let done = run_in_memory(alloc, &long, block(alloc, 20, 20, 20)?, &words, &[], &[])?;
+    long.resize(1_048_577, b'#')?;
+    let cube = block(alloc, 20, 20, 20)?;
+    let done = run_in_memory(alloc, &long, "a.stl", cube, &words, &[], &[])?;
     assert_eq!(rt; done.status, 4);
     assert_eq!(rt;
         done.err.taken(),
@@ -93,73 +188,92 @@ fn large_files_are_read_or_too_long(rt: HostRuntime) -> Result<(), Fail> {
     Ok(())
 }
 
-#[test]
-fn what_can_not_be_arranged_is_told_in_one_line(rt: HostRuntime) -> Result<(), Fail> {
-    let alloc = rt.alloc();
-    let words = ["arrange", "p0.toml", "cube.stl"];
-    let not_yet = b"input: cube.stl: not yet\n".as_slice();
-    // a plate of 20 by 20, a height of 2,010 mm in bands of 10 mm, and a number that isn't whole
-    let cases = [
-        (SMALL_PLATE, block(alloc, 20, 20, 20)?),
-        (PLATE, block(alloc, 20, 20, 2_010)?),
-        (PLATE, Vec::from_slice(alloc, HALF)?),
-    ];
-    for (printer, mesh) in cases {
-        let done = run_in_memory(alloc, printer, mesh, &words, &[], &[])?;
-        assert_eq!(rt; done.status, 4);
-        assert_eq!(rt; done.err.taken(), not_yet);
-        assert_eq!(rt; done.out.taken(), b"".as_slice());
-    }
-    // with parts the description is of another form
-    let done = run_in_memory(alloc, PARTS, block(alloc, 20, 20, 20)?, &words, &[], &[])?;
-    assert_eq!(rt; done.status, 4);
-    assert_eq!(rt; done.err.taken(), b"input: p0.toml: not yet\n".as_slice());
-    Ok(())
-}
+// Words, calls of the shelf that fail, the status and the line on `err`.
+static RUNS: [(&[&str], &[u64], u8, &[u8]); 20] = [
+    (&[], &[], 2, b"words: unknown command\n"),
+    (
+        &["arange", "p0.toml", "a.stl"],
+        &[],
+        2,
+        b"words: unknown command\n",
+    ),
+    (&["arrange", "p0.toml"], &[], 2, b"words: usage\n"),
+    (
+        &["arrange", "--help", "p0.toml", "a.stl"],
+        &[],
+        2,
+        b"words: usage\n",
+    ),
+    (
+        &["slices", "p0.toml", "a.stl", "a.stl"],
+        &[],
+        2,
+        b"words: usage\n",
+    ),
+    (
+        &["arrange", "--budget", "0", "p.toml", "a.stl"],
+        &[],
+        2,
+        b"words: bad number for --budget\n",
+    ),
+    (&["trial", "17", "-"], &[], 2, b"words: bad number for K\n"),
+    (
+        &["trial", "1", "4294967296"],
+        &[],
+        2,
+        b"words: bad number for N\n",
+    ),
+    (
+        &[
+            "arrange", "p", "1", "2", "3", "4", "5", "6", "7", "8", "9", "10", "11", "12", "13",
+            "14", "15", "16", "17",
+        ],
+        &[],
+        2,
+        b"words: more than 16 meshes\n",
+    ),
+    (&["check", "p", "q", "r"], &[], 2, b"words: not yet\n"),
+    (&["audit", "p", "q", "r"], &[], 2, b"words: not yet\n"),
+    (&["slices", "p0.toml", "b.stl"], &[], 3, b"read: b.stl\n"),
+    (&["trial", "1", "0"], &[], 2, b"words: not yet\n"),
+    (
+        &["arrange", "--least", "p", "q"],
+        &[],
+        2,
+        b"words: not yet\n",
+    ),
+    (&["arrange", "p", "q", "q"], &[], 2, b"words: not yet\n"),
+    (&["arrange", "p1.toml", "a.stl"], &[], 3, b"read: p1.toml\n"),
+    (&["arrange", "p0.toml", "-"], &[], 3, b"read: -\n"),
+    (
+        &["arrange", "p0.toml", "a.stl"],
+        &[0],
+        3,
+        b"read: p0.toml\n",
+    ),
+    (
+        &["arrange", "p0.toml", "a.stl"],
+        &[2],
+        3,
+        b"read: p0.toml\n",
+    ),
+    (&["arrange", "p0.toml", "a.stl"], &[3], 3, b"read: a.stl\n"),
+];
 
 #[test]
 fn words_and_failures_have_their_lines(rt: HostRuntime) -> Result<(), Fail> {
     let alloc = rt.alloc();
-    let all = ["arrange", "p0.toml", "cube.stl"].as_slice();
-    let cases = [
-        (
-            [].as_slice(),
-            [].as_slice(),
-            2,
-            b"words: unknown command\n".as_slice(),
-        ),
-        (
-            &["slices", "p0.toml", "cube.stl"],
-            &[],
-            2,
-            b"words: unknown command\n",
-        ),
-        (&["arrange", "p0.toml"], &[], 2, b"words: usage\n"),
-        (&["arrange", "p0.toml", "-"], &[], 2, b"words: usage\n"),
-        (
-            &["arrange", "p0.toml", "cube.stl", "cube.stl"],
-            &[],
-            2,
-            b"words: usage\n",
-        ),
-        (
-            &["arrange", "p1.toml", "cube.stl"],
-            &[],
-            3,
-            b"read: p1.toml\n",
-        ),
-        (all, &[0], 3, b"read: p0.toml\n"),
-        (all, &[2], 3, b"read: p0.toml\n"),
-        (all, &[3], 3, b"read: cube.stl\n"),
-    ];
-    for (words, failing, status, line) in cases {
-        let done = run_in_memory(alloc, PLATE, block(alloc, 20, 20, 20)?, words, failing, &[])?;
-        assert_eq!(rt; done.status, status);
-        assert_eq!(rt; done.err.taken(), line);
+    for (words, failing, status, line) in &RUNS {
+        let cube = block(alloc, 20, 20, 20)?;
+        let done = run_in_memory(alloc, PLATE, "a.stl", cube, words, failing, &[])?;
+        assert_eq!(rt; done.status, *status);
+        assert_eq!(rt; done.err.taken(), *line);
         assert_eq!(rt; done.out.taken(), b"".as_slice());
     }
     // the second write of ten bytes fails
-    let done = run_in_memory(alloc, PLATE, block(alloc, 20, 20, 20)?, all, &[], &[1])?;
+    let words = ["arrange", "p0.toml", "a.stl"];
+    let cube = block(alloc, 20, 20, 20)?;
+    let done = run_in_memory(alloc, PLATE, "a.stl", cube, &words, &[], &[1])?;
     assert_eq!(rt; done.status, 8);
     assert_eq!(rt; done.out.taken(), b"seqplan 1\n".as_slice());
     Ok(())

@@ -9,3 +9,7 @@
 mod arranging;
 #[cfg(test)]
 mod meshes;
+#[cfg(test)]
+mod runs;
+#[cfg(test)]
+mod slicing;

@@ -34,6 +34,9 @@ fn refuses_an_order_that_closes_a_cycle(rt: HostRuntime) {
     graph.undo();
     graph.undo();
     assert!(rt; graph.add(2, 0).is_ok(), "0 leads to 1 alone");
+    assert!(rt; graph.add(2, 0).is_ok(), "a copy");
+    graph.undo();
+    assert!(rt; graph.add(0, 2).is_err(), "the first of them is held");
 }
 
 #[test]

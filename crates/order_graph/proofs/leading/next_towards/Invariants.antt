@@ -1,10 +1,9 @@
-use Rattle.std.proofs.Common.{◌≡◌, length, count_by}
-use Rattle.std.specs.Prelude.{is_none}
-use Rattle.order_graph.specs.Walks.{LeadsOn}
+use Rattle.std.proofs.Common.{◌+◌, ◌-◌, ◌*◌}
+use Rattle.order_graph.proofs.LeadingLaws.{IsSearch}
 use Rattle.order_graph.proofs.leading.next_towards.Given as goal
 
-abbrev pub invariant-loop-i : goal.invariant-loop-i
-invariant-loop-i l = record { long : length l.next ≡ 16; leads : LeadsOn l.held l.goal l.next }
+abbrev pub invariant-loop-b : goal.invariant-loop-b
+invariant-loop-b l = IsSearch l.before l.goal l.next l.known l.todo
 
-abbrev pub decreases-loop-i : goal.decreases-loop-i
-decreases-loop-i l = count_by is_none l.next
+abbrev pub decreases-loop-b : goal.decreases-loop-b
+decreases-loop-b l = (65536 - l.known) * 65536 + l.todo

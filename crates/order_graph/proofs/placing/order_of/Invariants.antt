@@ -1,14 +1,8 @@
-use Rattle.std.proofs.Common.{◌≡◌, ◌≤◌, ◌++◌, length, take, drop}
-use Rattle.order_graph.specs.Walks.{IsPlacing}
+use Rattle.order_graph.proofs.PlacingLaws.{IsPlacing}
 use Rattle.order_graph.proofs.placing.order_of.Given as goal
 
-abbrev pub invariant-loop-start : goal.invariant-loop-start
-invariant-loop-start l = record {
-  long : length l.objects ≡ 16;
-  within : l.place ≤ l.n;
-  each : length l.placed ≡ l.n;
-  placing : IsPlacing (l.held ++ l.forced) l.placed (drop l.place (take l.n l.objects));
-}
+abbrev pub invariant-loop-k : goal.invariant-loop-k
+invariant-loop-k l = IsPlacing l.n l.before l.left l.placed
 
-abbrev pub decreases-loop-start : goal.decreases-loop-start
-decreases-loop-start l = l.place
+abbrev pub decreases-loop-k : goal.decreases-loop-k
+decreases-loop-k l = l.left

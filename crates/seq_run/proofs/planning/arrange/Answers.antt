@@ -1,23 +1,24 @@
-use Rattle.std.proofs.Common.{◌∙◌, rules, ap, refl}
-use Rattle.lone_object.specs.Lone.{lone_plan}
-use Rattle.seq_model.specs.Bands.{band_count}
-use Rattle.seq_run.proofs.Planned.{spans_of, not_arrangeable, is_arrangeable, is_file, prints}
+use Rattle.std.proofs.Common.{rules, ◌≡◌, ◌∷◌, [], List, ℕ}
+use Rattle.seq_model.specs.declared.job.Object.{Object}
+use Rattle.seq_run.proofs.Answered.{one_object}
+use Rattle.seq_run.proofs.Planned.{is_place, found_for, none_for}
 use Rattle.seq_run.proofs.planning.arrange.Goals as goal
 
-pub returns-in_default-clause-not_yet : goal.returns-in_default-clause-not_yet
-returns-in_default-clause-not_yet c = λ _.
-    (let measure = c.measure_object-measure.result in
-    let spans = spans_of c.args.printer.now c.as_slice.result.now c.args.mesh.now.facets measure.low measure.high c.as_slice.ensures c.measure_object-measure.ensures.spans in
-    not_arrangeable c.args.printer.now c.args.mesh.now.facets measure.low measure.high spans (λ fits. absurd (cc (c.in_default.ensures.fits.1 fits))))
+pub returns-in_ok-found_text-in-Ok-clause-prints : goal.returns-in_ok-found_text-in-Ok-clause-prints
+returns-in_ok-found_text-in-Ok-clause-prints c =
+    let job = c.args.job.now in
+    let object : Object = c.index-as_slice-0.result in
+    let one : job.objects ≡ object ∷ [] = one_object job.objects c.as_slice.result.now object c.as_slice.ensures c.requires c.index-as_slice-0.is in
+    let text : List ℕ = c.from_vec-text.result in
+    let place = c.in-Ok.place in
+    let e = c.in-Ok.ensures in
+    found_for c.lone_place_is_valid.ensures job object place text one e.fits e.place (search rules) (is_place object.low place e.place e.small.0 e.small.1)
 
-pub returns-in-Ok-clause-found : goal.returns-in-Ok-clause-found
-returns-in-Ok-clause-found c =
-    let measure = c.measure_object-measure.result in
-    let spans = spans_of c.args.printer.now c.as_slice.result.now c.args.mesh.now.facets measure.low measure.high c.as_slice.ensures c.measure_object-measure.ensures.spans in
-    prints c.lone_place_is_valid.ensures c.args.printer.now c.args.mesh.now.facets measure.low measure.high c.in-Some.place c.in-Ok.text.items spans (search rules) (search rules) (search rules) (is_file c.args.printer.now.grid c.in-Some.place (lone_plan c.in-Some.place) refl c.args.printer.now.ranged.grid_low c.args.printer.now.ranged.grid_high (search rules))
-
-pub returns-in-Ok-clause-arrangeable : goal.returns-in-Ok-clause-arrangeable
-returns-in-Ok-clause-arrangeable c =
-    let measure = c.measure_object-measure.result in
-    let spans = spans_of c.args.printer.now c.as_slice.result.now c.args.mesh.now.facets measure.low measure.high c.as_slice.ensures c.measure_object-measure.ensures.spans in
-    is_arrangeable c.args.printer.now c.args.mesh.now.facets measure.low measure.high measure.bands spans (search rules) (c.measure_object-measure.ensures.bands ∙ ap (λ fs. band_count fs c.args.printer.now.step) c.as_slice.ensures) c.if-measure-gt200.false
+pub returns-in_ok-none_text-in-Err-clause-prints : goal.returns-in_ok-none_text-in-Err-clause-prints
+returns-in_ok-none_text-in-Err-clause-prints c =
+    let job = c.args.job.now in
+    let law = c.overhang_is_refuted.ensures in
+    let object : Object = c.index-as_slice-0.result in
+    let one : job.objects ≡ object ∷ [] = one_object job.objects c.as_slice.result.now object c.as_slice.ensures c.requires c.index-as_slice-0.is in
+    let text : List ℕ = c.from_vec-text-in-Err.result in
+    none_for law.none law.first law.tree job object c.in-Err.row text one c.in-Err.ensures.over (search rules)

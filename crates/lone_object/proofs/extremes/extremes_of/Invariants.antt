@@ -1,6 +1,0 @@
-use Rattle.std.proofs.Common.{drop}
-use Rattle.lone_object.proofs.Running.{Running}
-use Rattle.lone_object.proofs.extremes.extremes_of.Given as goal
-
-abbrev pub invariant-loop-f : goal.invariant-loop-f
-invariant-loop-f l = Running l.facets (drop l.f-index l.facets) l.found.low l.found.high

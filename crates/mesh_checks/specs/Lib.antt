@@ -1,0 +1,4 @@
+pub mod Edges
+pub mod Volumes
+pub mod Verdicts
+pub mod Runs

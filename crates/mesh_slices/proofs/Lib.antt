@@ -1,0 +1,13 @@
+mod Holding
+mod InBand
+mod Members
+mod Reached
+mod Running
+mod Nearness
+mod Outlines
+mod Polygons
+mod Pushes
+mod Assembled
+mod Grown
+mod SameSpots
+mod OneObject

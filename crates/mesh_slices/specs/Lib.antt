@@ -1,0 +1,17 @@
+pub mod CornerPoints
+pub mod Folding
+pub mod Objects
+pub mod Ranges
+pub mod Runs
+pub mod Vertices
+pub mod Agreement
+pub mod Agreeing
+pub mod AgreeingJobs
+pub mod Cover
+pub mod Covering
+pub mod CoveringSpots
+pub mod CoveringEdges
+pub mod CoveringFacets
+pub mod CoveringMeshes
+pub mod CoveringHeights
+pub mod Unique

@@ -1,0 +1,223 @@
+ghost use Rattle.std.specs.Prelude.{OnOk, All};
+ghost use Rattle.seq_model.specs.Bounds.{IsNear, IsNearFacet};
+
+use super::*;
+use owned_lists::{Items, Text};
+use seq_model::{Facet, Mesh, Part, Point3, Printer, Spot};
+use std::alloc::{AllocError, Global};
+use std::test::Fail;
+
+// A prism over a base in centimetres, from one height to another, or a cone with its top above a place of its own.
+type Solid = (&'static [(u8, u8)], u8, u8, Option<(u8, u8)>);
+
+// The first and the last band of a zone, and its corners in grains.
+type Run = (u32, u32, &'static [(i64, i64)]);
+
+const SQUARE: &[(u8, u8)] = &[(0, 0), (2, 0), (2, 2), (0, 2)];
+
+const WIDE: &[(i64, i64)] = &[(-1, -1), (21, -1), (21, 21), (-1, 21)];
+
+// Solids, and the number of bands, the least and the greatest spot coordinates, and the zones of their mesh. The printer has a
+// grain of 1 mm, a margin of 1 mm and bands of 10 mm.
+static SLICED: [(&[Solid], u32, (i64, i64), (i64, i64), &[Run]); 7] = [
+    // a cube, and a taller one whose middle band holds no vertex
+    (
+        &[(SQUARE, 0, 2, None)],
+        2,
+        (-1, -1),
+        (21, 21),
+        &[(0, 1, WIDE)],
+    ),
+    (
+        &[(SQUARE, 0, 3, None)],
+        3,
+        (-1, -1),
+        (21, 21),
+        &[(0, 2, WIDE)],
+    ),
+    // a pyramid: the outline of its upper band is that of the crossings with the lower height
+    (
+        &[(SQUARE, 0, 2, Some((1, 1)))],
+        2,
+        (-1, -1),
+        (21, 21),
+        &[(0, 0, WIDE), (1, 1, &[(4, 4), (16, 4), (16, 16), (4, 16)])],
+    ),
+    // a wedge
+    (
+        &[(&[(0, 0), (2, 0), (0, 2)], 0, 2, None)],
+        2,
+        (-1, -1),
+        (21, 21),
+        &[(0, 1, &[(-1, -1), (21, -1), (21, 1), (1, 21), (-1, 21)])],
+    ),
+    // two cubes with an empty band between them
+    (
+        &[(SQUARE, 0, 2, None), (SQUARE, 5, 7, None)],
+        7,
+        (-1, -1),
+        (21, 21),
+        &[(0, 2, WIDE), (4, 6, WIDE)],
+    ),
+    // a cube beside a smaller one that stands on its height
+    (
+        &[
+            (SQUARE, 0, 1, None),
+            (&[(4, 4), (5, 4), (5, 5), (4, 5)], 1, 3, None),
+        ],
+        3,
+        (-1, -1),
+        (51, 51),
+        &[
+            (
+                0,
+                1,
+                &[(-1, -1), (21, -1), (51, 39), (51, 51), (39, 51), (-1, 21)],
+            ),
+            (2, 2, &[(39, 39), (51, 39), (51, 51), (39, 51)]),
+        ],
+    ),
+    // the greatest number of bands
+    (
+        &[(SQUARE, 0, 200, None)],
+        200,
+        (-1, -1),
+        (21, 21),
+        &[(0, 199, WIDE)],
+    ),
+];
+
+// Solids whose mesh isn't sliced, and why.
+static REFUSED: [(&[Solid], Slice); 2] = [
+    (&[], Slice::Flat),
+    (&[(SQUARE, 0, 201, None)], Slice::TooTall(201)),
+];
+
+fn point(place: (u8, u8), z: u8) -> Point3
+    ensures { IsNear result }
+{
+    Point3 {
+        x: i64::from(place.0) * 10_000,
+        y: i64::from(place.1) * 10_000,
+        z: i64::from(z) * 10_000,
+    }
+}
+
+fn add(facets: &mut Vec<Facet>, a: Point3, b: Point3, c: Point3) -> Result<(), AllocError>
+    requires a { IsNear a }
+    requires b { IsNear b }
+    requires c { IsNear c }
+    requires facets { All IsNearFacet facets.old.items }
+    ensures { OnOk result (All IsNearFacet facets.new.items) }
+{
+    facets.push(Facet { a, b, c })?;
+    Ok(())
+}
+
+// The facets of a base at a height.
+fn add_base(facets: &mut Vec<Facet>, base: &[(u8, u8)], z: u8) -> Result<(), AllocError>
+    requires { All IsNearFacet facets.old.items }
+    ensures { OnOk result (All IsNearFacet facets.new.items) }
+{
+    for (k, place) in base.iter().enumerate() {
+        let next = base.get(k + 1).unwrap_or(place);
+        add(facets, point(base[0], z), point(*next, z), point(*place, z))?;
+    }
+    Ok(())
+}
+
+// The facets of the sides of a solid.
+fn add_sides(facets: &mut Vec<Facet>, solid: &Solid) -> Result<(), AllocError>
+    requires { All IsNearFacet facets.old.items }
+    ensures { OnOk result (All IsNearFacet facets.new.items) }
+{
+    let (base, low, high, top) = *solid;
+    for (k, place) in base.iter().enumerate() {
+        let next = base.get(k + 1).unwrap_or(&base[0]);
+        let above = point(top.unwrap_or(*place), high);
+        let beyond = point(top.unwrap_or(*next), high);
+        add(facets, point(*place, low), point(*next, low), beyond)?;
+        add(facets, point(*place, low), beyond, above)?;
+    }
+    Ok(())
+}
+
+fn mesh_of(alloc: Global, solids: &[Solid]) -> Result<Option<Mesh>, AllocError> {
+    let mut facets = Vec::new(alloc);
+    for solid in solids {
+        add_base(&mut facets, solid.0, solid.1)?;
+        add_sides(&mut facets, solid)?;
+    }
+    if facets.len() > 200_000 {
+        return Ok(None);
+    }
+    Ok(Some(Mesh {
+        facets: Items::from_vec(facets),
+        dropped: 0,
+    }))
+}
+
+fn printer_of(alloc: Global) -> Result<Printer, AllocError> {
+    let mut corners = Items::new(alloc);
+    corners.push(Spot { x: 0, y: 0 })?;
+    let mut parts = Items::new(alloc);
+    parts.push(Part {
+        name: Text::from_str(alloc, "tip")?,
+        corners,
+        lo: 0,
+        hi: Some(0),
+    })?;
+    Ok(Printer {
+        grain: 1_000,
+        width: 100,
+        depth: 100,
+        step: 10_000,
+        margin: 1,
+        grid: 100,
+        parts,
+    })
+}
+
+fn spot(place: (i64, i64)) -> Spot {
+    Spot {
+        x: place.0,
+        y: place.1,
+    }
+}
+
+#[test]
+fn meshes_are_sliced(rt: HostRuntime) -> Result<(), Fail> {
+    let printer = printer_of(rt.alloc())?;
+    for (solids, bands, low, high, runs) in &SLICED {
+        let mesh = mesh_of(rt.alloc(), solids)?.ok_or("too many facets")?;
+        let object = object(rt.alloc(), "solid", &mesh, &printer)
+            .ok()
+            .ok_or("refused")?;
+        assert_eq!(rt; object.name.as_str(), "solid");
+        assert_eq!(rt; object.bands, *bands);
+        assert_eq!(rt; object.low, spot(*low));
+        assert_eq!(rt; object.high, spot(*high));
+        let zones = object.zones.as_slice();
+        assert_eq!(rt; zones.len(), runs.len());
+        for (zone, (first, last, corners)) in zones.iter().zip(*runs) {
+            assert_eq!(rt; (zone.first, zone.last), (*first, *last));
+            let found = zone.corners.as_slice();
+            assert_eq!(rt; found.len(), corners.len());
+            assert!(rt; found.iter().zip(*corners).all(|(c, d)| *c == spot(*d)));
+        }
+    }
+    Ok(())
+}
+
+#[test]
+fn meshes_are_refused(rt: HostRuntime) -> Result<(), Fail> {
+    let printer = printer_of(rt.alloc())?;
+    for (solids, why) in &REFUSED {
+        let mesh = mesh_of(rt.alloc(), solids)?.ok_or("too many facets")?;
+        assert_eq!(rt;
+            object(rt.alloc(), "solid", &mesh, &printer).err(),
+            Some(*why)
+        );
+    }
+    Ok(())
+}
