@@ -11,7 +11,7 @@
 --   ArePartsOf sizes listed kept    the parts that are kept of those that are listed
 --   PrinterOf bytes p       the bytes describe the printer p, which keeps the hulls of its parts
 --   IsRefusedPrinter bytes e    the bytes are refused for this cause
-use Rattle.std.specs.Prelude.{◌≡◌, ◌↔◌, ◌⊎◌, ℕ, ◌+◌, ℤ, Bool, List, [], ◌∷◌, ◌++◌, All, Contains, Option, Some, None, Result, Ok, Err, IsUtf8, option_map}
+use Rattle.std.specs.Prelude.{◌≡◌, ◌↔◌, ◌⊎◌, ℕ, ◌+◌, Bool, List, [], ◌∷◌, ◌++◌, All, Contains, Option, Some, None, Result, Ok, Err, IsUtf8, option_map}
 use Rattle.convex_outline.specs.Corners.{AreCorners, at_spot}
 use Rattle.printer_envelopes.specs.Bands.{first_band, last_band}
 use Rattle.printer_envelopes.specs.Bars.{bar}
@@ -22,7 +22,7 @@ use Rattle.seq_model.specs.Scenes.{Description, description_of}
 use Rattle.seq_model.specs.declared.printer.Part.{Part}
 use Rattle.seq_model.specs.declared.printer.Printer.{Printer}
 use Rattle.seq_model.specs.declared.printer.Spot.{Spot}
-use Rattle.toml.specs.Data.{Data, Items, no_items, item, Members, as_table}
+use Rattle.toml.specs.Data.{Items, no_items, item, Members, as_table}
 use Rattle.toml.specs.Parse.{parse_document}
 use Rattle.printer_text.specs.declared.Key.TheVariants as key
 use Rattle.printer_text.specs.declared.Prn.{Prn}
