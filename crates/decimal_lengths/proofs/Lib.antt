@@ -8,3 +8,4 @@ pub mod Measuring
 pub mod Refusing
 pub mod Answering
 pub mod SpellingLaws
+pub mod Computing

@@ -37,12 +37,12 @@ finished bytes s e =
     decimal_read (bytes ++ 48 ∷ []) z.end (fold-append step (Some start) bytes (48 ∷ []) ∙ ap (λ s. step s 48) e ∙ z.ended) z.complete
 
 -- a reading comes through a decimal
-record Through (bytes : List ℕ) : Type 0 where
-  end : State
-  came : reading bytes ≡ Some end
-  complete : IsComplete end.phase
+pub record Through (bytes : List ℕ) : Type 0 where
+  pub end : State
+  pub came : reading bytes ≡ Some end
+  pub complete : IsComplete end.phase
 
-through : (bytes : List ℕ) → IsDecimal bytes → Through bytes
+pub through : (bytes : List ℕ) → IsDecimal bytes → Through bytes
 through bytes d =
     record {
       end = _;
@@ -161,7 +161,7 @@ only_too_far bytes (Err (BadByte p)) h a = sym (only_bad_byte bytes p (Err TooFa
 only_too_far bytes (Err NoDigit) h a = sym (only_no_digit bytes (Err TooFar) a h)
 only_too_far bytes (Err TooFar) h a = refl
 
-only_length : (bytes : List ℕ) (um : ℤ) (r : Result ℤ Decimal) → IsReadAs bytes um → Answers bytes r → Ok um ≡ r
+pub only_length : (bytes : List ℕ) (um : ℤ) (r : Result ℤ Decimal) → IsReadAs bytes um → Answers bytes r → Ok um ≡ r
 only_length bytes um (Ok other) h a = ap Ok (one_length bytes um other h.value a.value)
 only_length bytes um (Err Empty) h a = sym (only_empty bytes (Ok um) a h)
 only_length bytes um (Err TooLong) h a = sym (only_too_long bytes (Ok um) a h)

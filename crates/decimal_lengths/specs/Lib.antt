@@ -4,3 +4,4 @@ pub mod Refusals
 pub mod Spelling
 pub mod Scanning
 pub mod Sizes
+pub mod Computed

@@ -14,7 +14,7 @@ mod scanning;
 mod sizing;
 mod writing;
 
-pub use reading::read_um;
+pub use reading::{each_length, read_um};
 pub use writing::write_um;
 
 /// Why bytes are no length.

@@ -1,6 +1,8 @@
 //! Reads a length.
 
-ghost use Rattle.std.specs.Prelude.{◌≡◌, ◌↔◌, ◌<◌, ◌≤◌, ◌^◌, ℤ, Ok, Err, length, if◌then◌else◌, neg_ℤ, pos};
+ghost use Rattle.std.specs.Prelude.{◌≡◌, ◌↔◌, ◌<◌, ◌≤◌, ◌^◌, ℤ, Ok, Err, length, if◌then◌else◌, neg_ℤ, pos, List, ℕ, Some};
+ghost use Rattle.std.specs.Result.{result_ok};
+ghost use Rattle.decimal_lengths.specs.Computed.{length_of};
 ghost use Rattle.decimal_lengths.specs.Lengths.{IsReadAs};
 ghost use Rattle.decimal_lengths.specs.Refusals.{Refuses, Answers};
 
@@ -16,6 +18,7 @@ const MOST_BYTES: usize = 64;
 /// an optional sign and at least one digit.
 pub fn read_um(bytes: &[u8]) -> Result<i64, Decimal>
     ensures length { (um : ℤ) → (result ≡ Ok um) ↔ IsReadAs bytes.now um }
+    ensures value { result_ok result ≡ length_of bytes.now }
     ensures refused { (cause : Decimal) → (result ≡ Err cause) ↔ Refuses bytes.now cause }
 {
     if bytes.is_empty() {
@@ -26,6 +29,11 @@ pub fn read_um(bytes: &[u8]) -> Result<i64, Decimal>
     }
     read_short(bytes)
 }
+
+/// The length of any bytes is one function of them: it gives a length exactly where they are read as that one.
+pub fn each_length()
+    ensures { (bytes : List ℕ) (um : ℤ) → (length_of bytes ≡ Some um) ↔ IsReadAs bytes um }
+{}
 
 fn read_short(bytes: &[u8]) -> Result<i64, Decimal>
     requires some { 0 < length bytes.now }

@@ -1,0 +1,4 @@
+pub mod ItemLaws
+pub mod RangeLaws
+pub mod OutlineLaws
+pub mod HullLaws

@@ -1,0 +1,5 @@
+pub mod Values
+pub mod Outlines
+pub mod Keys
+pub mod Tables
+pub mod Printers
