@@ -1,5 +1,5 @@
 -- What the parts of a run give is an answer over its files.
-use Rattle.std.proofs.Common.{◌≡◌, ℕ, Bool, List, [], ◌∷◌, length, get_or, Option, Result, Ok, Err, IfOk, refl, sym, ap, subst, arith}
+use Rattle.std.proofs.Common.{◌≡◌, ℕ, Bool, List, [], ◌∷◌, length, get_or, Option, Result, Ok, Err, IfOk, sym, ap, subst, arith}
 use Rattle.mesh_slices.specs.Objects.{CanBeSliced, IsObjectOf}
 use Rattle.seq_io.specs.declared.mem_file.MemFile.{MemFile}
 use Rattle.seq_model.specs.Scenes.{Description}
@@ -7,7 +7,7 @@ use Rattle.seq_model.specs.declared.job.Job.{Job}
 use Rattle.seq_model.specs.declared.job.Object.{Object}
 use Rattle.seq_model.specs.declared.mesh.Facet.{Facet}
 use Rattle.seq_model.specs.declared.printer.Printer.{Printer}
-use Rattle.seq_run.specs.Answers.{Answers, ArrangesJob, IsJobOf, IsNoteFor, Prints, PrintsFor}
+use Rattle.seq_run.specs.Answers.{Answers, ArrangesJob, IsNoteFor, Prints, PrintsFor}
 use Rattle.seq_run.specs.Files.{IsMeshFile, IsPrinterFor, IsPrinterOf, PassesStrict}
 use Rattle.seq_run.specs.Words.{is_strict}
 use Rattle.seq_run.specs.declared.planning.Answer.{Answer}

@@ -1,7 +1,7 @@
 -- The plan of one object: its text and why it is valid; or the certificate and why it refutes.
-use Rattle.std.proofs.Common.{◌≡◌, ℕ, ◌≤◌, ◌^◌, unsigned_abs, pos, ◌-ℤ◌, ◌≤ℤ◌, ◌<ℤ◌, ℤ, List, [], ◌∷◌, refl, sym, ap, ◌∙◌, subst, arith}
+use Rattle.std.proofs.Common.{◌≡◌, ℕ, ◌≤◌, ◌^◌, unsigned_abs, pos, ◌≤ℤ◌, List, [], ◌∷◌, refl, sym, ap, ◌∙◌, subst, arith}
 use Rattle.std.proofs.lemmas.Int.{ints}
-use Rattle.std.proofs.lemmas.List.Elements.{All-nil, All-cons, All-contains}
+use Rattle.std.proofs.lemmas.List.Elements.{All-nil, All-cons}
 use Rattle.std.proofs.Math.Nat.{eq-one_of_dvd-one}
 use Rattle.lone_object.specs.Lone.{FitsPlate, Overhangs, IsFirstNegative, span_tree, zero_place, lone_plan}
 use Rattle.plan_text.specs.PlanText.{plan_text, IsPlace, IsPlanFile}
@@ -16,7 +16,7 @@ use Rattle.seq_model.specs.declared.plan.Plan.{Plan}
 use Rattle.seq_model.specs.declared.printer.Part.{Part}
 use Rattle.seq_model.specs.declared.printer.Printer.{Printer}
 use Rattle.seq_model.specs.declared.printer.Spot.{Spot}
-use Rattle.seq_run.specs.Answers.{PrintsPlan, PrintsNone, ArrangesJob, IsJobOf}
+use Rattle.seq_run.specs.Answers.{PrintsPlan, ArrangesJob}
 use Rattle.seq_run.specs.Texts.{found, none_text}
 
 -- no number but 1 divides the scale 1, so the file of a plan of one place is one that the grammar spells

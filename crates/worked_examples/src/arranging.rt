@@ -55,62 +55,57 @@ const OUTWARD: &[u8] =
 const INWARD: &[u8] =
     b"solid\nfacet normal 0 0 0 outer loop vertex 0 0 1.5 vertex 0 20 20 vertex 20 0 0 endloop endfacet endsolid";
 
+const OPEN: &[u8] = b"note: a.stl: open edges 3, six volume 48000000000000, dropped 0\n";
+
+const DROPPED: &[u8] = b"note: a.stl: open edges 0, six volume 48000000000000, dropped 1\n";
+
 #[test]
-fn open_and_inverted_meshes_are_noted_and_a_strict_run_refuses_them(
-    rt: HostRuntime,
-) -> Result<(), Fail> {
+fn a_mesh_that_is_open_inverted_or_cleaned_is_noted(rt: HostRuntime) -> Result<(), Fail> {
     let alloc = rt.alloc();
-    let loose = ["arrange", "p0.toml", "a.stl"].as_slice();
-    let strict = ["arrange", "p0.toml", "--strict", "a.stl"].as_slice();
-    let open = b"note: a.stl: open edges 3, six volume 48000000000000, dropped 0\n".as_slice();
-    let dropped = b"note: a.stl: open edges 0, six volume 48000000000000, dropped 1\n".as_slice();
+    let words = ["arrange", "p0.toml", "a.stl"];
     let cases = [
-        (loose, PLATE, open_cube(alloc)?, 0, PLAN, open),
-        (loose, SMALL_PLATE, open_cube(alloc)?, 1, NONE, open),
+        (PLATE, open_cube(alloc)?, 0, PLAN, OPEN),
+        (SMALL_PLATE, open_cube(alloc)?, 1, NONE, OPEN),
+        (PLATE, cube_with_a_dropped_facet(alloc)?, 0, PLAN, DROPPED),
         (
-            strict,
-            PLATE,
-            open_cube(alloc)?,
-            4,
-            b"",
-            b"input: a.stl: not a closed outward mesh: open edges 3, six volume 48000000000000\n",
-        ),
-        (strict, PLATE, block(alloc, 20, 20, 20)?, 0, PLAN, b""),
-        (
-            loose,
-            PLATE,
-            cube_with_a_dropped_facet(alloc)?,
-            0,
-            PLAN,
-            dropped,
-        ),
-        (
-            strict,
-            PLATE,
-            cube_with_a_dropped_facet(alloc)?,
-            0,
-            PLAN,
-            dropped,
-        ),
-        (
-            loose,
             PLATE,
             Vec::from_slice(alloc, OUTWARD)?,
             0,
             PLAN,
             b"note: a.stl: open edges 3, six volume 600000000000, dropped 0\n",
         ),
+    ];
+    for (printer, mesh, status, text, line) in cases {
+        let done = run_in_memory(alloc, printer, "a.stl", mesh, &words, &[], &[])?;
+        assert_eq!(rt; done.status, status);
+        assert_eq!(rt; done.out.taken(), text);
+        assert_eq!(rt; done.err.taken(), line);
+    }
+    Ok(())
+}
+
+#[test]
+fn a_strict_run_refuses_what_is_open_or_inverted(rt: HostRuntime) -> Result<(), Fail> {
+    let alloc = rt.alloc();
+    let words = ["arrange", "p0.toml", "--strict", "a.stl"];
+    let cases = [
+        (block(alloc, 20, 20, 20)?, 0, PLAN, b"".as_slice()),
+        (cube_with_a_dropped_facet(alloc)?, 0, PLAN, DROPPED),
         (
-            strict,
-            PLATE,
+            open_cube(alloc)?,
+            4,
+            b"",
+            b"input: a.stl: not a closed outward mesh: open edges 3, six volume 48000000000000\n",
+        ),
+        (
             Vec::from_slice(alloc, INWARD)?,
             4,
             b"",
             b"input: a.stl: not a closed outward mesh: open edges 3, six volume -600000000000\n",
         ),
     ];
-    for (words, printer, mesh, status, text, line) in cases {
-        let done = run_in_memory(alloc, printer, "a.stl", mesh, words, &[], &[])?;
+    for (mesh, status, text, line) in cases {
+        let done = run_in_memory(alloc, PLATE, "a.stl", mesh, &words, &[], &[])?;
         assert_eq!(rt; done.status, status);
         assert_eq!(rt; done.out.taken(), text);
         assert_eq!(rt; done.err.taken(), line);
