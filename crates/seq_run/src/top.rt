@@ -11,7 +11,7 @@ ghost use Rattle.seq_run.specs.declared.stop.NamedFile.{NamedFile};
 ghost use Rattle.seq_words.specs.Usages.{texts};
 ghost use Rattle.seq_words.specs.declared.command.Words.{Words};
 
-use crate::files::{read_printer, read_solid};
+use crate::files::{load_mesh, load_printer};
 use crate::messages::{status_of, words_line};
 use crate::planning::{Answer, arrange_mesh, slice_mesh};
 use crate::telling::{deliver, tell};
@@ -30,8 +30,8 @@ fn work<S: Shelf>(alloc: Global, asked: &Asked, shelf: &mut S) -> Result<Answer,
     ensures broken { (file : NamedFile) → IsErrOf result (Stop.Read file) → IsTrue (S.broken shelf.new) }
     ensures named { (file : NamedFile) → IsErrOf result (Stop.Read file) → S.named shelf.new ≡ Some (name_in asked.now file) }
 {
-    let printer = read_printer(alloc, asked, shelf)?;
-    let mesh = read_solid(alloc, asked, &printer, shelf)?;
+    let printer = load_printer(alloc, asked, shelf)?;
+    let mesh = load_mesh(alloc, asked, &printer, shelf)?;
     match asked.task {
         Task::Arrange { strict } => arrange_mesh(alloc, strict, &asked.mesh, &mesh, printer),
         Task::Slices => slice_mesh(alloc, &asked.mesh, &mesh, &printer),
@@ -82,7 +82,7 @@ fn answer<S: Shelf, O: Sink, E: Sink>(
             Err(_) => 8,
         },
         Err(stop) => match tell(alloc, asked, stop, err) {
-            Ok(told) => status_of(told),
+            Ok(told) => status_of(&told),
             Err(_) => 8,
         },
     }
