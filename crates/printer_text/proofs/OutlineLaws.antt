@@ -5,6 +5,7 @@ use Rattle.std.proofs.lemmas.Bool.Decides.{nat_tests}
 use Rattle.std.proofs.lemmas.Int.{ints, quot-rem}
 use Rattle.std.proofs.lemmas.List.{length-append}
 use Rattle.std.proofs.lemmas.List.Elements.{All-append, All-cons}
+use Rattle.std.specs.Ordering.{int_eq}
 use Rattle.std.specs.Prelude.{int_div, int_rem}
 use Rattle.integer_laws.specs.Ring as Ring
 use Rattle.printer_envelopes.specs.Bars.{bar, rectangle}
@@ -42,16 +43,15 @@ in_range low high n m true h e =
     record { same = cc; from = grind (arith, ints, nat_tests); to = grind (arith, ints, nat_tests) }
 in_range low high n m false h e = absurd cc
 
-rest_none : (r : ℤ) → int_le r (pos 0) ≡ true → int_le (pos 0) r ≡ true → r ≡ pos 0
-rest_none r a b = grind (arith, ints, nat_tests)
+rest_none : (r : ℤ) → int_eq r (pos 0) ≡ true → r ≡ pos 0
+rest_none r a = grind (arith, ints, nat_tests)
 
 sum_zero : (a b : ℤ) → a +ℤ pos 0 ≡ b → a ≡ b
 sum_zero a b e = omega (arith, ints)
 
-whole : (unit um n : ℤ) (b : Bool) → (int_le (int_rem um unit) (pos 0) && int_le (pos 0) (int_rem um unit)) ≡ b → cond {A = Result ℤ Cause} b (Ok (int_div um unit)) (Err cause.OffGrain) ≡ Ok n → unit *ℤ n ≡ um
+whole : (unit um n : ℤ) (b : Bool) → int_eq (int_rem um unit) (pos 0) ≡ b → cond {A = Result ℤ Cause} b (Ok (int_div um unit)) (Err cause.OffGrain) ≡ Ok n → unit *ℤ n ≡ um
 whole unit um n true h e =
-    let two = and_parts (int_le (int_rem um unit) (pos 0)) (int_le (pos 0) (int_rem um unit)) h in
-    let none : int_rem um unit ≡ pos 0 = rest_none (int_rem um unit) two.0 two.1 in
+    let none : int_rem um unit ≡ pos 0 = rest_none (int_rem um unit) h in
     let quotient : int_div um unit ≡ n = cc in
     let sum : n *ℤ unit +ℤ pos 0 ≡ um = subst (λ r. n *ℤ unit +ℤ r ≡ um) none (subst (λ q. q *ℤ unit +ℤ int_rem um unit ≡ um) quotient (quot-rem um unit)) in
     Ring.mul_comm unit n ∙ sum_zero (n *ℤ unit) um sum

@@ -11,6 +11,7 @@
 --   Stops r stop, StopsKey r unread    memory is wanting, or r is this refusal
 use Rattle.std.specs.Prelude.{◌≡◌, ℕ, ℤ, pos, neg_ℤ, ◌*ℤ◌, ◌+◌, ◌++◌, Bool, true, false, ◌&&◌, ◌||◌, List, [], ◌∷◌, length, Option, Some, None, is_some, Result, Ok, Err, if◌then◌else◌, int_le, int_rem, int_div, nat_le, Float, codes}
 use Rattle.std.specs.List.{list_all}
+use Rattle.std.specs.Ordering.{int_eq}
 use Rattle.std.specs.Str.{bytes_eq}
 use Rattle.decimal_lengths.specs.Computed as Decimals
 use Rattle.seq_model.specs.Parts.{is_name_byte}
@@ -36,7 +37,7 @@ abbrev pub within : ℤ → ℤ → ℤ → Result ℤ Cause
 within low high n = if int_le low n && int_le n high then Ok n else Err cause.Range
 
 abbrev pub on_lattice : ℤ → ℤ → Result ℤ Cause
-on_lattice unit um = if int_le (int_rem um unit) (pos 0) && int_le (pos 0) (int_rem um unit) then Ok (int_div um unit) else Err cause.OffGrain
+on_lattice unit um = if int_eq (int_rem um unit) (pos 0) then Ok (int_div um unit) else Err cause.OffGrain
 
 -- whole millimetres, in µm: out of range before anything is multiplied
 abbrev pub millimetres : ℤ → Result ℤ Cause

@@ -36,6 +36,15 @@ fn tip(alloc: Global) -> Result<Part, AllocError>
     })
 }
 
+// The tip alone, before any listed part.
+fn tip_alone(alloc: Global) -> Result<Vec<Part>, AllocError>
+    ensures { IfOk result (λ parts. parts.items ≡ tip ∷ []) }
+{
+    let mut parts = Vec::new(alloc);
+    parts.push(tip(alloc)?)?;
+    Ok(parts)
+}
+
 // The part with the corners of its hull.
 fn kept_part(alloc: Global, part: Part) -> Result<Part, NoMemory>
     requires { IsListedPart part }
@@ -58,13 +67,9 @@ fn read_parts(alloc: Global, sizes: &Sizes, listed: &[Value]) -> Result<Vec<Part
     ensures ok { IfOk result (λ parts. ArePartsOf sizes.now (items_view listed.now) parts.items) }
     ensures err { IfErr result (λ e. (e ≡ Prn.NoMemory) ⊎ (parts_behind 1 sizes.now (tip ∷ []) (items_view listed.now) ≡ Err e)) }
 {
-    let mut parts = Vec::new(alloc);
-    let Ok(tip) = tip(alloc) else {
+    let Ok(mut parts) = tip_alone(alloc) else {
         return Err(Prn::NoMemory);
     };
-    if parts.push(tip).is_err() {
-        return Err(Prn::NoMemory);
-    }
     for (index, value) in listed.iter().enumerate() {
         let Some(table) = value.as_table() else {
             return Err(Prn::Kind(Key::Part, 0));
@@ -97,6 +102,7 @@ fn printer_with(sizes: Sizes, parts: Items<Part>) -> Printer
 }
 
 // The sizes and the listed parts of a top table that has no other key.
+#[tactic(auto, unfolding(crate::specs::Printers::top_in))]
 fn top_alone<'a>(alloc: Global, table: &'a Table) -> Result<(Sizes, Option<&'a [Value]>), Prn>
     ensures ok { IfOk result (λ top. top_in (table_view table.now) ≡ Ok (said_top top.0 (option_map (λ values. items_view values.now) top.1))) }
     ensures ranged { IfOk result (λ top. AreSizes top.0) }
@@ -123,6 +129,7 @@ fn top_alone<'a>(alloc: Global, table: &'a Table) -> Result<(Sizes, Option<&'a [
 }
 
 // The printer of a table.
+#[tactic(auto, unfolding(crate::specs::Printers::description_in))]
 fn described(alloc: Global, table: &Table) -> Result<Printer, Prn>
     ensures ok { IfOk result (λ printer. (parts : List Part) × (description_in (table_view table.now) ≡ Ok (description_of printer parts)) × AreKept parts printer.parts) }
     ensures err { IfErr result (λ e. (e ≡ Prn.NoMemory) ⊎ (description_in (table_view table.now) ≡ Err e)) }

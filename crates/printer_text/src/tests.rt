@@ -1,10 +1,550 @@
-use crate::read_printer;
+use crate::values::Cause;
+use crate::{Key, Prn, key_text, read_printer};
+use seq_model::{Part, Spot};
+use std::alloc::{AllocError, Global};
 use std::test::Fail;
 
+// What a description is refused for.
+#[derive(Clone, Copy, Debug, PartialEq, Eq)]
+enum Want {
+    Toml,
+    Key(Cause, Key, u32),
+    TooManyParts,
+}
+
+const TO_GRAIN: &str = "format = 1\n";
+
+const TO_PLATE: &str = "format = 1\ngrain = 1\n";
+
+const TO_STEP: &str = "format = 1\ngrain = 1\nplate = [100, 100]\n";
+
+const TO_MARGIN: &str = "format = 1\ngrain = 1\nplate = [100, 100]\nstep = 10\n";
+
+const TO_GRID: &str = "format = 1\ngrain = 1\nplate = [100, 100]\nstep = 10\nmargin = 1\n";
+
+const TOP: &str = "format = 1\ngrain = 1\nplate = [100, 100]\nstep = 10\nmargin = 1\ngrid = 100\n";
+
+const PART: &str =
+    "format = 1\ngrain = 1\nplate = [100, 100]\nstep = 10\nmargin = 1\ngrid = 100\n[[part]]\n";
+
+const TO_FROM: &str =
+    "format = 1\ngrain = 1\nplate = [100, 100]\nstep = 10\nmargin = 1\ngrid = 100\n[[part]]\nname = \"a\"\n";
+
+const TO_TO: &str =
+    "format = 1\ngrain = 1\nplate = [100, 100]\nstep = 10\nmargin = 1\ngrid = 100\n[[part]]\nname = \"a\"\nfrom = 5\n";
+
+const TO_LOW: &str =
+    "format = 1\ngrain = 1\nplate = [100, 100]\nstep = 10\nmargin = 1\ngrid = 100\n[[part]]\nname = \"a\"\nfrom = 5\nbar = \"x\"\n";
+
+const TO_HIGH: &str =
+    "format = 1\ngrain = 1\nplate = [100, 100]\nstep = 10\nmargin = 1\ngrid = 100\n[[part]]\nname = \"a\"\nfrom = 5\nbar = \"x\"\nlow = 2\n";
+
+const SECOND: &str =
+    "format = 1\ngrain = 1\nplate = [100, 100]\nstep = 10\nmargin = 1\ngrid = 100\n[[part]]\nname = \"a\"\nfrom = 5\ncorners = [[0, 0]]\n[[part]]\n";
+
+// the lines that a description begins with, those that follow, and its refusal
+static REFUSED: [(&str, &str, Want); 91] = [
+    // the top table, key by key
+    ("", "", Want::Key(Cause::Missing, Key::Format, 0)),
+    ("", "format = \"1\"", Want::Key(Cause::Kind, Key::Format, 0)),
+    ("", "format = 1.0", Want::Key(Cause::Kind, Key::Format, 0)),
+    ("", "format = 2", Want::Key(Cause::Range, Key::Format, 0)),
+    (
+        "",
+        "format = 9223372036854775807",
+        Want::Key(Cause::Range, Key::Format, 0),
+    ),
+    (TO_GRAIN, "", Want::Key(Cause::Missing, Key::Grain, 0)),
+    (
+        TO_GRAIN,
+        "grain = true",
+        Want::Key(Cause::Kind, Key::Grain, 0),
+    ),
+    (
+        TO_GRAIN,
+        "grain = 1.0",
+        Want::Key(Cause::FloatLength, Key::Grain, 0),
+    ),
+    (
+        TO_GRAIN,
+        "grain = \"1,0\"",
+        Want::Key(Cause::Number, Key::Grain, 0),
+    ),
+    (
+        TO_GRAIN,
+        "grain = 11",
+        Want::Key(Cause::Range, Key::Grain, 0),
+    ),
+    (
+        TO_GRAIN,
+        "grain = \"0.009\"",
+        Want::Key(Cause::Range, Key::Grain, 0),
+    ),
+    (
+        TO_GRAIN,
+        "grain = -9223372036854775808",
+        Want::Key(Cause::Range, Key::Grain, 0),
+    ),
+    (TO_PLATE, "", Want::Key(Cause::Missing, Key::Plate, 0)),
+    (
+        TO_PLATE,
+        "plate = 100",
+        Want::Key(Cause::Kind, Key::Plate, 0),
+    ),
+    (
+        TO_PLATE,
+        "plate = [100]",
+        Want::Key(Cause::Kind, Key::Plate, 0),
+    ),
+    (
+        TO_PLATE,
+        "plate = [0.5, 100, 100]",
+        Want::Key(Cause::Kind, Key::Plate, 0),
+    ),
+    (
+        TO_PLATE,
+        "plate = [0.5, true]",
+        Want::Key(Cause::Kind, Key::Plate, 0),
+    ),
+    (
+        TO_PLATE,
+        "plate = [100.0, 0]",
+        Want::Key(Cause::FloatLength, Key::Plate, 0),
+    ),
+    (
+        TO_PLATE,
+        "plate = [\"x\", 0]",
+        Want::Key(Cause::Number, Key::Plate, 0),
+    ),
+    (
+        TO_PLATE,
+        "plate = [0, 100.0]",
+        Want::Key(Cause::Range, Key::Plate, 0),
+    ),
+    (
+        TO_PLATE,
+        "plate = [100, 10001]",
+        Want::Key(Cause::Range, Key::Plate, 0),
+    ),
+    (
+        TO_PLATE,
+        "plate = [\"1.5\", 100.0]",
+        Want::Key(Cause::OffGrain, Key::Plate, 0),
+    ),
+    (
+        TO_PLATE,
+        "plate = [1, 100.0]",
+        Want::Key(Cause::FloatLength, Key::Plate, 0),
+    ),
+    (TO_STEP, "", Want::Key(Cause::Missing, Key::Step, 0)),
+    (TO_STEP, "step = [10]", Want::Key(Cause::Kind, Key::Step, 0)),
+    (
+        TO_STEP,
+        "step = 0.2",
+        Want::Key(Cause::FloatLength, Key::Step, 0),
+    ),
+    (
+        TO_STEP,
+        "step = \"0.2 \"",
+        Want::Key(Cause::Number, Key::Step, 0),
+    ),
+    (TO_STEP, "step = 101", Want::Key(Cause::Range, Key::Step, 0)),
+    (
+        TO_STEP,
+        "step = \"0.0094\"",
+        Want::Key(Cause::Range, Key::Step, 0),
+    ),
+    (TO_MARGIN, "", Want::Key(Cause::Missing, Key::Margin, 0)),
+    (
+        TO_MARGIN,
+        "margin = {}",
+        Want::Key(Cause::Kind, Key::Margin, 0),
+    ),
+    (
+        TO_MARGIN,
+        "margin = 1e0",
+        Want::Key(Cause::FloatLength, Key::Margin, 0),
+    ),
+    (
+        TO_MARGIN,
+        "margin = \"\"",
+        Want::Key(Cause::Number, Key::Margin, 0),
+    ),
+    (
+        TO_MARGIN,
+        "margin = \"0.999\"",
+        Want::Key(Cause::Range, Key::Margin, 0),
+    ),
+    (
+        TO_MARGIN,
+        "margin = 1001",
+        Want::Key(Cause::Range, Key::Margin, 0),
+    ),
+    (
+        TO_MARGIN,
+        "margin = \"1.0005\"",
+        Want::Key(Cause::OffGrain, Key::Margin, 0),
+    ),
+    (TO_GRID, "", Want::Key(Cause::Missing, Key::Grid, 0)),
+    (
+        TO_GRID,
+        "grid = \"100\"",
+        Want::Key(Cause::Kind, Key::Grid, 0),
+    ),
+    (TO_GRID, "grid = 0", Want::Key(Cause::Range, Key::Grid, 0)),
+    (
+        TO_GRID,
+        "grid = 1001",
+        Want::Key(Cause::Range, Key::Grid, 0),
+    ),
+    (TOP, "part = 1", Want::Key(Cause::Kind, Key::Part, 0)),
+    (TOP, "[part]", Want::Key(Cause::Kind, Key::Part, 0)),
+    (TOP, "part = [{}, 1]", Want::Key(Cause::Kind, Key::Part, 0)),
+    (
+        TOP,
+        "part = [{},{},{},{},{},{},{},{},{},{},{},{},{}]",
+        Want::TooManyParts,
+    ),
+    (
+        TOP,
+        "part = [{},{},{},{},{},{},{},{},{},{},{},{},1]",
+        Want::Key(Cause::Kind, Key::Part, 0),
+    ),
+    (
+        TOP,
+        "part = [{}, {}]",
+        Want::Key(Cause::Missing, Key::Name, 1),
+    ),
+    // a listed part, key by key
+    (PART, "from = 0.5", Want::Key(Cause::Missing, Key::Name, 1)),
+    (PART, "name = 1", Want::Key(Cause::Kind, Key::Name, 1)),
+    (PART, "name = \"\"", Want::Key(Cause::Range, Key::Name, 1)),
+    (
+        PART,
+        "name = \"aaaaaaaaaaaaaaaaaaaaaaaaaaaaaaaaaaaaaaaaa\"",
+        Want::Key(Cause::Range, Key::Name, 1),
+    ),
+    (
+        PART,
+        "name = \"a b\"",
+        Want::Key(Cause::Range, Key::Name, 1),
+    ),
+    (TO_FROM, "", Want::Key(Cause::Missing, Key::From, 1)),
+    (TO_FROM, "from = [0]", Want::Key(Cause::Kind, Key::From, 1)),
+    (
+        TO_FROM,
+        "from = 0.0",
+        Want::Key(Cause::FloatLength, Key::From, 1),
+    ),
+    (
+        TO_FROM,
+        "from = \"a\"",
+        Want::Key(Cause::Number, Key::From, 1),
+    ),
+    (TO_FROM, "from = -1", Want::Key(Cause::Range, Key::From, 1)),
+    (
+        TO_FROM,
+        "from = 10001",
+        Want::Key(Cause::Range, Key::From, 1),
+    ),
+    (
+        TO_FROM,
+        "from = \"10000.001\"",
+        Want::Key(Cause::Number, Key::From, 1),
+    ),
+    (TO_TO, "to = false", Want::Key(Cause::Kind, Key::To, 1)),
+    (TO_TO, "to = 6.0", Want::Key(Cause::FloatLength, Key::To, 1)),
+    (TO_TO, "to = \"6 mm\"", Want::Key(Cause::Number, Key::To, 1)),
+    (TO_TO, "to = \"4.999\"", Want::Key(Cause::Range, Key::To, 1)),
+    (TO_TO, "bar = 1", Want::Key(Cause::Kind, Key::Bar, 1)),
+    (TO_TO, "bar = \"X\"", Want::Key(Cause::Range, Key::Bar, 1)),
+    (TO_TO, "", Want::Key(Cause::Missing, Key::Corners, 1)),
+    (
+        TO_TO,
+        "corners = 1",
+        Want::Key(Cause::Kind, Key::Corners, 1),
+    ),
+    (
+        TO_TO,
+        "corners = [[0.5, 0], [0]]",
+        Want::Key(Cause::Kind, Key::Corners, 1),
+    ),
+    (
+        TO_TO,
+        "corners = [[0.5, 0], [0, 0, 0]]",
+        Want::Key(Cause::Kind, Key::Corners, 1),
+    ),
+    (
+        TO_TO,
+        "corners = []",
+        Want::Key(Cause::Range, Key::Corners, 1),
+    ),
+    (
+        TO_TO,
+        "corners = [[0.5,0],[0,0],[0,0],[0,0],[0,0],[0,0],[0,0],[0,0],[0,0],[0,0],[0,0],[0,0],[0,0],[0,0],[0,0],[0,0],[0,0],[0,0],[0,0],[0,0],[0,0],[0,0],[0,0],[0,0],[0,0],[0,0],[0,0],[0,0],[0,0],[0,0],[0,0],[0,0],[0,0]]",
+        Want::Key(Cause::Range, Key::Corners, 1),
+    ),
+    (
+        TO_TO,
+        "corners = [[0, 0], [0.5, 0]]",
+        Want::Key(Cause::FloatLength, Key::Corners, 1),
+    ),
+    (
+        TO_TO,
+        "corners = [[0, 0], [0, \"-\"]]",
+        Want::Key(Cause::Number, Key::Corners, 1),
+    ),
+    (
+        TO_TO,
+        "corners = [[0, -10001], [0.5, 0]]",
+        Want::Key(Cause::Range, Key::Corners, 1),
+    ),
+    (
+        TO_TO,
+        "corners = [[\"0.5\", 0.5]]",
+        Want::Key(Cause::OffGrain, Key::Corners, 1),
+    ),
+    (TO_LOW, "high = 1", Want::Key(Cause::Missing, Key::Low, 1)),
+    (TO_LOW, "low = []", Want::Key(Cause::Kind, Key::Low, 1)),
+    (
+        TO_LOW,
+        "low = 0.0",
+        Want::Key(Cause::FloatLength, Key::Low, 1),
+    ),
+    (TO_LOW, "low = \".\"", Want::Key(Cause::Number, Key::Low, 1)),
+    (TO_LOW, "low = -10001", Want::Key(Cause::Range, Key::Low, 1)),
+    (
+        TO_LOW,
+        "low = \"0.5\"",
+        Want::Key(Cause::OffGrain, Key::Low, 1),
+    ),
+    (TO_HIGH, "", Want::Key(Cause::Missing, Key::High, 1)),
+    (
+        TO_HIGH,
+        "high = \"a\"",
+        Want::Key(Cause::Number, Key::High, 1),
+    ),
+    (
+        TO_HIGH,
+        "high = 3.0",
+        Want::Key(Cause::FloatLength, Key::High, 1),
+    ),
+    (TO_HIGH, "high = true", Want::Key(Cause::Kind, Key::High, 1)),
+    (
+        TO_HIGH,
+        "high = \"1.999\"",
+        Want::Key(Cause::Range, Key::High, 1),
+    ),
+    (
+        TO_HIGH,
+        "high = \"2.5\"",
+        Want::Key(Cause::OffGrain, Key::High, 1),
+    ),
+    // the second part
+    (SECOND, "", Want::Key(Cause::Missing, Key::Name, 2)),
+    (
+        SECOND,
+        "name = \"b\"\nfrom = 0.0",
+        Want::Key(Cause::FloatLength, Key::From, 2),
+    ),
+    // no TOML
+    ("", "format = ", Want::Toml),
+    ("", "format = 9223372036854775808", Want::Toml),
+    ("", "format = 1\nformat = 1", Want::Toml),
+];
+
+// the same, and the first other key with the number of its table
+static UNKNOWN: [(&str, &str, &str, u32); 9] = [
+    (TOP, "zz = 1\nab = 2\n", "ab", 0),
+    (TOP, "obstacle = []\n", "obstacle", 0),
+    (TOP, "Grid = 1\npart = [{}]\n", "Grid", 0),
+    (TOP, "name = \"a\"\n", "name", 0),
+    (
+        TO_TO,
+        "bar = \"x\"\ncorners = [[0, 0]]\nlow = 0\nhigh = 1\n",
+        "corners",
+        1,
+    ),
+    (TO_TO, "corners = [[0, 0]]\nlow = 0\nhigh = 1\n", "high", 1),
+    (TO_TO, "corners = [[0, 0]]\nlow = 0\n", "low", 1),
+    (TO_TO, "corners = [[0, 0]]\nfroM = 0\nTo = 9\n", "To", 1),
+    (
+        SECOND,
+        "name = \"b\"\nfrom = 0\ncorners = [[0, 0]]\ngrain = 1\n",
+        "grain",
+        2,
+    ),
+];
+
+// the same, and the grain, width, depth, step, margin and grid of the printer
+static SIZES: [(&str, &str, (i64, i64, i64, i64, i64, u32)); 4] = [
+    (TOP, "", (1000, 100, 100, 10000, 1, 100)),
+    (
+        TO_STEP,
+        "step = \"0.2\"\nmargin = 1000\ngrid = 1\n",
+        (1000, 100, 100, 200, 1000, 1),
+    ),
+    (
+        TO_GRAIN,
+        "grain = \"0.01\"\nplate = [\"0.01\", 200]\nstep = 100\nmargin = \"9.9996\"\ngrid = 1000\n",
+        (10, 1, 20000, 100000, 1000, 1000),
+    ),
+    (
+        TO_GRAIN,
+        "grain = 10\nplate = [10000, 10]\nstep = \"0.0095\"\nmargin = 10\ngrid = 7\npart = []\n",
+        (10000, 1000, 1, 10, 1, 7),
+    ),
+];
+
+// the same, with lo, hi and the kept corners of the first listed part
+static PARTS: [(&str, &str, u32, Option<u32>, &[(i64, i64)]); 6] = [
+    (
+        TO_TO,
+        "to = 11\ncorners = [[0, 0]]\n",
+        0,
+        Some(2),
+        &[(0, 0)],
+    ),
+    (
+        TO_TO,
+        "to = 5\ncorners = [[1, 1], [0, 0], [2, 2], [0, 0]]\n",
+        0,
+        Some(1),
+        &[(0, 0), (2, 2)],
+    ),
+    (
+        TO_TO,
+        "corners = [[0, 0], [2, 0], [1, 0], [\"2.0\", 2], [0, \"2\"], [1, 1]]\n",
+        0,
+        None,
+        &[(0, 0), (2, 0), (2, 2), (0, 2)],
+    ),
+    (
+        TO_TO,
+        "bar = \"y\"\nlow = -3\nhigh = 4\n",
+        0,
+        None,
+        &[(-3, -101), (4, -101), (4, 101), (-3, 101)],
+    ),
+    (
+        TO_TO,
+        "bar = \"x\"\nlow = 4\nhigh = 4\n",
+        0,
+        None,
+        &[(-101, 4), (101, 4)],
+    ),
+    (
+        TO_FROM,
+        "from = 20\nto = \"20.001\"\nbar = \"x\"\nlow = -10\nhigh = 10\n",
+        2,
+        Some(3),
+        &[(-101, -10), (101, -10), (101, 10), (-101, 10)],
+    ),
+];
+
+static P1: &str =
+    "format = 1\ngrain = 1\nplate = [100, 100]\nstep = 10\nmargin = 1\ngrid = 100\n\n[[part]]\nname = \"nozzle\"\nfrom = 0\ncorners = [[-2, -2], [2, -2], [2, 2], [-2, 2]]\n\n[[part]]\nname = \"gantry\"\nfrom = 20\nbar = \"x\"\nlow = -10\nhigh = 10\n";
+
+fn wanted(prn: &Prn) -> Option<Want> {
+    match prn {
+        Prn::Toml => Some(Want::Toml),
+        Prn::Missing(key, number) => Some(Want::Key(Cause::Missing, *key, *number)),
+        Prn::Kind(key, number) => Some(Want::Key(Cause::Kind, *key, *number)),
+        Prn::FloatLength(key, number) => Some(Want::Key(Cause::FloatLength, *key, *number)),
+        Prn::Number(key, number) => Some(Want::Key(Cause::Number, *key, *number)),
+        Prn::Range(key, number) => Some(Want::Key(Cause::Range, *key, *number)),
+        Prn::OffGrain(key, number) => Some(Want::Key(Cause::OffGrain, *key, *number)),
+        Prn::TooManyParts => Some(Want::TooManyParts),
+        Prn::Unknown(_, _) => None,
+        Prn::NoMemory => None,
+    }
+}
+
+fn unknown(prn: &Prn) -> Option<(&str, u32)> {
+    match prn {
+        Prn::Unknown(text, number) => Some((text.as_str(), *number)),
+        _ => None,
+    }
+}
+
+fn joined(alloc: Global, first: &str, rest: &str) -> Result<String, AllocError> {
+    let mut text = String::from_str(alloc, first)?;
+    text.push_str(rest)?;
+    Ok(text)
+}
+
+fn has_corners(part: &Part, corners: &[(i64, i64)]) -> bool {
+    let kept = part.corners.as_slice();
+    if kept.len() != corners.len() {
+        return false;
+    }
+    for (spot, (x, y)) in kept.iter().zip(corners) {
+        if *spot != (Spot { x: *x, y: *y }) {
+            return false;
+        }
+    }
+    true
+}
+
 #[test]
-fn plain(rt: HostRuntime) -> Result<(), Fail> {
+fn descriptions_are_refused_at_their_first_wrong_key(rt: HostRuntime) -> Result<(), Fail> {
     let alloc = rt.alloc();
-    let plain = b"format = 1\ngrain = 1\nplate = [100, 100]\nstep = 10\nmargin = 1\ngrid = 100\n";
-    assert!(rt; read_printer(alloc, plain).is_ok());
+    for (first, rest, want) in &REFUSED {
+        match read_printer(alloc, joined(alloc, first, rest)?.as_bytes()) {
+            Ok(_) => assert_eq!(rt; *rest, "accepted"),
+            Err(prn) => assert_eq!(rt; wanted(&prn), Some(*want)),
+        }
+    }
+    for (first, rest, key, number) in &UNKNOWN {
+        match read_printer(alloc, joined(alloc, first, rest)?.as_bytes()) {
+            Ok(_) => assert_eq!(rt; *rest, "accepted"),
+            Err(prn) => assert_eq!(rt; unknown(&prn), Some((*key, *number))),
+        }
+    }
+    match read_printer(alloc, b"format = 1 #\xff".as_slice()) {
+        Ok(_) => return Err("not UTF-8".into()),
+        Err(prn) => assert_eq!(rt; wanted(&prn), Some(Want::Toml)),
+    }
+    Ok(())
+}
+
+#[test]
+fn printers_are_read(rt: HostRuntime) -> Result<(), Fail> {
+    let alloc = rt.alloc();
+    for (first, rest, want) in &SIZES {
+        let Ok(p) = read_printer(alloc, joined(alloc, first, rest)?.as_bytes()) else {
+            return Err("sizes".into());
+        };
+        assert_eq!(rt;
+            (p.grain, p.width, p.depth, p.step, p.margin, p.grid),
+            *want
+        );
+        assert_eq!(rt; p.parts.len(), 1);
+        assert!(rt; has_corners(&p.parts.as_slice()[0], &[(0, 0)]));
+    }
+    for (first, rest, lo, hi, corners) in &PARTS {
+        let Ok(p) = read_printer(alloc, joined(alloc, first, rest)?.as_bytes()) else {
+            return Err("parts".into());
+        };
+        assert_eq!(rt; p.parts.len(), 2);
+        let part = &p.parts.as_slice()[1];
+        assert_eq!(rt; part.name.as_str(), "a");
+        assert_eq!(rt; (part.lo, part.hi), (*lo, *hi));
+        assert!(rt; has_corners(part, corners));
+    }
+    let Ok(p) = read_printer(alloc, P1.as_bytes()) else {
+        return Err("P1".into());
+    };
+    let parts = p.parts.as_slice();
+    assert_eq!(rt; parts.len(), 3);
+    assert_eq!(rt; parts[0].name.as_str(), "tip");
+    assert_eq!(rt; (parts[0].lo, parts[0].hi), (0, Some(0)));
+    assert_eq!(rt; parts[1].name.as_str(), "nozzle");
+    assert_eq!(rt; (parts[1].lo, parts[1].hi), (0, None));
+    assert!(rt; has_corners(&parts[1], &[(-2, -2), (2, -2), (2, 2), (-2, 2)]));
+    assert_eq!(rt; parts[2].name.as_str(), "gantry");
+    assert_eq!(rt; (parts[2].lo, parts[2].hi), (2, None));
+    assert!(rt; has_corners(&parts[2], &[(-101, -10), (101, -10), (101, 10), (-101, 10)]));
+    assert_eq!(rt; key_text(Key::Corners), "corners");
     Ok(())
 }

@@ -58,8 +58,7 @@ fn on_lattice(unit: i64, um: i64) -> Result<i64, Cause>
     ensures value { result ≡ on_lattice unit um }
     ensures exact { IfOk result (λ count. unit *ℤ count ≡ um) }
 {
-    let rest = um % unit;
-    if rest <= 0 && 0 <= rest {
+    if um % unit == 0 {
         Ok(um / unit)
     } else {
         Err(Cause::OffGrain)

@@ -11,7 +11,7 @@ use Rattle.printer_text.proofs.printer.read_parts.Goals as goal
 pub loop-index-init : goal.loop-index-init
 loop-index-init c =
     let all = items_view c.args.listed.now in
-    let items : c.push.new.self.items ≡ tip ∷ [] = search rules in
+    let items : c.in-Ok.parts.items ≡ tip ∷ [] = search rules in
     subst (Behind c.args.sizes.now all all 1) (sym items) (begins c.args.sizes.now all)
 
 pub loop-index-preserved : goal.loop-index-preserved
@@ -20,11 +20,11 @@ loop-index-preserved c =
     let vs = c.args.listed.now in
     let d = c.index-listed-index.result in
     let below : loop.index < length vs = search rules in
-    let items : c.push-in-loop-index.new.self.items ≡ loop.parts.items ++ c.in-Ok-kept_part.kept ∷ [] = search rules in
+    let items : c.push.new.self.items ≡ loop.parts.items ++ c.in-Ok-kept_part.kept ∷ [] = search rules in
     let is : as_table (view (get_or vs loop.index d)) ≡ Some (table_view c.in-Some.table.now) = search rules in
     let read : part_in (loop.index + 1) c.args.sizes.now (table_view c.in-Some.table.now) ≡ Ok c.in_ok-part.part = search rules in
     subst (Behind c.args.sizes.now (items_view vs) (items_view (drop (loop.index + 1) vs)) (loop.index + 1 + 1)) (sym items)
-      (goes_on c.args.sizes.now (items_view vs) vs loop.index d loop.parts.items (table_view c.in-Some.table.now) c.in_ok-part.part c.in-Ok-kept_part.kept below loop.invariant is read (search rules) (search rules))
+    (goes_on c.args.sizes.now (items_view vs) vs loop.index d loop.parts.items (table_view c.in-Some.table.now) c.in_ok-part.part c.in-Ok-kept_part.kept below loop.invariant is read (search rules) (search rules))
 
 pub returns-clause-ok : goal.returns-clause-ok
 returns-clause-ok c =
