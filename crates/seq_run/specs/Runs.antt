@@ -7,14 +7,16 @@
 --   IsUnread files a named e e'        status 3: reading failed at this file that the words name, and `err` took its line
 --   IsRefusedInput files a e e'        status 4: the first file that can't be used is refused, and `err` took its line
 --   IsUsable files a                   both files can be used
+--   HasNoPlan files a                  they can, and no plan is valid for them
 --   WordsBroke, ErrBroke, OutBroke     status 8: a sink failed within the line of refused words; within the line of a stop or
 --                                      the notes of an answer; within its text
-use Rattle.std.specs.Prelude.{◌≡◌, ◌⊎◌, ℕ, List, Option, Some, Ok, Err}
+use Rattle.std.specs.Prelude.{◌≡◌, ◌⊎◌, ℕ, Bool, List, [], ◌∷◌, Option, Some, Ok, Err}
 use Rattle.seq_io.specs.Counts.{Rose}
 use Rattle.seq_io.specs.Taken.{Grew, TookPart}
 use Rattle.seq_io.specs.declared.mem_file.MemFile.{MemFile}
-use Rattle.seq_model.specs.Scenes.{Description}
+use Rattle.seq_model.specs.Scenes.{Description, Valid, scene_of_files}
 use Rattle.seq_model.specs.declared.mesh.Facet.{Facet}
+use Rattle.seq_model.specs.declared.plan.Plan.{Plan}
 use Rattle.seq_words.specs.declared.command.Words.TheVariants.{NoMemory}
 use Rattle.seq_run.specs.Answers.{Answers}
 use Rattle.seq_run.specs.Causes.{Refuses, Reaches, Explains}
@@ -27,6 +29,7 @@ use Rattle.seq_run.specs.declared.stop.Stop.{Stop}
 use Rattle.seq_run.specs.declared.words.Asked.{Asked}
 use Rattle.seq_run.specs.declared.words.Misworded.{Misworded}
 use Rattle.seq_run.specs.declared.words.Misworded.TheVariants.{Refused}
+use Rattle.seq_run.specs.declared.words.Task.TheVariants.{Arrange}
 
 pub record Asks (words : List (List ℕ)) (P : Asked → Type 0) : Type 0 where
   pub asked : Asked
@@ -62,6 +65,16 @@ pub record IsUsable (files : Option (List MemFile)) (a : Asked) : Type 0 where
   pub facets : List Facet
   pub dropped : ℕ
   pub usable : AreUsable files a description facets dropped
+
+-- the files can be used, and no plan is valid for them, on the whole plate or at a smaller extent
+pub record HasNoPlan (files : Option (List MemFile)) (a : Asked) : Type 0 where
+  pub strict : Bool
+  pub arranges : a.task ≡ Arrange strict
+  pub description : Description
+  pub facets : List Facet
+  pub dropped : ℕ
+  pub usable : AreUsable files a description facets dropped
+  pub none : (e : ℕ) (plan : Plan) → Valid (scene_of_files description (facets ∷ [])) e plan → ⊥
 
 pub record WordsBroke (words : List (List ℕ)) (e e' : Option (List ℕ)) (before now : ℕ) : Type 0 where
   pub why : Misworded

@@ -10,6 +10,7 @@
 #![tactic(auto)]
 
 mod files;
+mod laws;
 mod messages;
 mod planning;
 mod reading;

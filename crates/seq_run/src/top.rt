@@ -1,17 +1,23 @@
-ghost use Rattle.std.specs.Prelude.{◌≡◌, ◌⊎◌, ◌≤◌, Some, IfOk, IfErr, IsErr, IsErrOf, IsTrue};
+ghost use Rattle.std.specs.Prelude.{◌≡◌, ◌⊎◌, ◌≤◌, List, Some, IfOk, IfErr, IsErr, IsErrOf, IsTrue};
 ghost use Rattle.seq_io.specs.Counts.{Rose};
 ghost use Rattle.seq_io.specs.Taken.{Grew, TookPart};
+ghost use Rattle.seq_io.specs.declared.mem_file.MemFile.{MemFile};
 ghost use Rattle.seq_run.specs.Answers.{Answers};
 ghost use Rattle.seq_run.specs.Causes.{Explains};
 ghost use Rattle.seq_run.specs.Files.{name_in};
 ghost use Rattle.seq_run.specs.Messages.{memory_line, words_line};
-ghost use Rattle.seq_run.specs.Runs.{Asks, ErrBroke, IsAnswered, IsMisworded, IsRefusedInput, IsUnread, IsUsable, OutBroke, WordsBroke};
+ghost use Rattle.seq_run.specs.Runs.{Asks, ErrBroke, HasNoPlan, IsAnswered, IsMisworded, IsRefusedInput, IsUnread, IsUsable, OutBroke, WordsBroke};
 ghost use Rattle.seq_run.specs.Words.{requested};
 ghost use Rattle.seq_run.specs.declared.stop.NamedFile.{NamedFile};
 ghost use Rattle.seq_words.specs.Usages.{texts};
 ghost use Rattle.seq_words.specs.declared.command.Words.{Words};
 
+<<<<<<< HEAD
 use crate::files::{load_mesh, load_printer};
+=======
+use crate::files::{read_printer, read_solid};
+use crate::laws::{a_found_plan_is_one, refused_files_are_unusable};
+>>>>>>> 6eebe76cc6d01281c04ef94cbe4d0e753213a63a
 use crate::messages::{status_of, words_line};
 use crate::planning::{Answer, arrange_mesh, slice_mesh};
 use crate::telling::{deliver, tell};
@@ -103,8 +109,10 @@ pub fn run<S: Shelf, O: Sink, E: Sink>(
     // 0: `err` took the notes, and then `out` the whole text of a plan that is valid on the plate.
     ensures found { result ≡ 0 → Asks (texts words.now.items) (λ a. IsAnswered 0 (S.files shelf.old) a (E.taken err.old) (E.taken err.new) (O.taken out.old) (O.taken out.new)) }
 
-    // 1: no plan is valid; `err` took the notes, and then `out` the text that says so, with a certificate.
+    // 1: exactly where no plan is valid; `err` took the notes, and then `out` the text that says so, with a certificate.
     ensures none { result ≡ 1 → Asks (texts words.now.items) (λ a. IsAnswered 1 (S.files shelf.old) a (E.taken err.old) (E.taken err.new) (O.taken out.old) (O.taken out.new)) }
+
+    ensures none_always { (files : List MemFile) → S.files shelf.old ≡ Some files → Asks (texts words.now.items) (HasNoPlan (Some files)) → (result ≡ 1) ⊎ (result ≡ 3) ⊎ (result ≡ 8) ⊎ (result ≡ 9) }
 
     // 2: exactly where the words are refused, or what they ask for isn't built; no file is started.
     ensures words { result ≡ 2 → IsMisworded (texts words.now.items) (E.taken err.old) (E.taken err.new) }
@@ -120,6 +128,8 @@ pub fn run<S: Shelf, O: Sink, E: Sink>(
     ensures input { result ≡ 4 → Asks (texts words.now.items) (λ a. IsRefusedInput (S.files shelf.old) a (E.taken err.old) (E.taken err.new)) }
     ensures input_always { (Asks (texts words.now.items) (IsUsable (S.files shelf.old)) → ⊥) → (result ≡ 2) ⊎ (result ≡ 3) ⊎ (result ≡ 4) ⊎ (result ≡ 8) ⊎ (result ≡ 9) }
 
+    ensures input_only { (files : List MemFile) → S.files shelf.old ≡ Some files → result ≡ 4 → Asks (texts words.now.items) (IsUsable (Some files)) → ⊥ }
+
     // 8: only where a sink failed within its text; `out` is written after `err`.
     ensures write { result ≡ 8 → (WordsBroke (texts words.now.items) (E.taken err.old) (E.taken err.new) (E.faults err.old) (E.faults err.new) × (O.taken out.new ≡ O.taken out.old))
         ⊎ (Asks (texts words.now.items) (λ a. ErrBroke (S.files shelf.old) a (E.taken err.old) (E.taken err.new) (E.faults err.old) (E.faults err.new)) × (O.taken out.new ≡ O.taken out.old))
@@ -129,6 +139,9 @@ pub fn run<S: Shelf, O: Sink, E: Sink>(
     ensures memory { result ≡ 9 → Grew (E.taken err.old) (E.taken err.new) memory_line }
     ensures silent { (result ≡ 2) ⊎ (result ≡ 3) ⊎ (result ≡ 4) ⊎ (result ≡ 9) → O.taken out.new ≡ O.taken out.old }
 {
+    // laws: what files can't be at once
+    refused_files_are_unusable();
+    a_found_plan_is_one();
     match request(alloc, words) {
         Ok(asked) => answer(alloc, &asked, shelf, out, err),
         Err(why) => refuse(why, err),
