@@ -12,12 +12,8 @@ ghost use Rattle.seq_run.specs.declared.stop.NamedFile.{NamedFile};
 ghost use Rattle.seq_words.specs.Usages.{texts};
 ghost use Rattle.seq_words.specs.declared.command.Words.{Words};
 
-<<<<<<< HEAD
 use crate::files::{load_mesh, load_printer};
-=======
-use crate::files::{read_printer, read_solid};
 use crate::laws::{a_found_plan_is_one, refused_files_are_unusable};
->>>>>>> 6eebe76cc6d01281c04ef94cbe4d0e753213a63a
 use crate::messages::{status_of, words_line};
 use crate::planning::{Answer, arrange_mesh, slice_mesh};
 use crate::telling::{deliver, tell};
