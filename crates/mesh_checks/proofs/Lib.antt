@@ -5,4 +5,4 @@ pub mod Steps
 pub mod Walk
 pub mod Ends
 pub mod Ascents
-pub mod Found
+pub mod HalfEdges

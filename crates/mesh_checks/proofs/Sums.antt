@@ -1,7 +1,9 @@
 -- Sums over lists that have no edge twice.
 use Rattle.std.proofs.Common.{◌≡◌, ℕ, zero, suc, ◌<◌, ◌≤◌, List, [], ◌∷◌, ◌++◌, refl, ap, sym, subst, arith, ◌⊎◌, inl, inr, sum_by}
+use Rattle.std.specs.Prelude.{◌≢◌}
+use Rattle.std.proofs.lemmas.List.Kept.{AllPairs-cons}
 use Rattle.std.proofs.lemmas.List.Sums.{sum_by-cons, sum_by-append}
-use Rattle.integer_laws.specs.Members.{In, Contains-from_in, In-append_left, In-append_right, In-append_cases}
+use Rattle.integer_laws.specs.Members.{In, All-from_in, Contains-from_in, In-append_left, In-append_right, In-append_cases}
 use Rattle.mesh_checks.specs.Edges.{Edge, IsOnce}
 
 -- no member stands twice, by recursion
@@ -15,6 +17,10 @@ Once-from_pairs (e ∷ es) once = (
   (λ i. let c = Contains-from_in es e i in once 0 (suc c.0) e (omega arith) (omega arith) (sym c.2)),
   Once-from_pairs es (λ i j d h k. once (suc i) (suc j) d (omega arith) (omega arith)),
 )
+
+pub IsOnce-from_once : (es : List Edge) → Once es → IsOnce es
+IsOnce-from_once [] once = λ i j d low high. absurd (omega arith)
+IsOnce-from_once (e ∷ es) once = AllPairs-cons ◌≢◌ e es (All-from_in (λ d. e ≢ d) es (λ d i q. once.0 (subst (λ t. In t es) (sym q) i))) (IsOnce-from_once es once.1)
 
 -- what stands before a member, and what stands after it
 pub record SplitAt (e : Edge) (es : List Edge) : Type 0 where

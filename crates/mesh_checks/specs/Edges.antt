@@ -1,15 +1,19 @@
 -- Edges of facets, and how many of them are open.
 --
---   edge p q              the edge from the point p to the point q
---   edges facets          the three edges of each facet: from a to b, from b to c, from c to a
---   turned e              the edge e the other way
---   times es e            how often the edge e stands in es
---   excess es e           how often it stands there more often than e turned
---   IsOnce es             no edge stands twice in es
---   each_once es          the different edges of es
---   open_in es            the excess, summed over the different edges of es
---   open_edges facets     the same for the edges of the facets
---   IsSumOverPairs facets it is the sum over all ordered pairs of different points, whatever list they stand in
+--   Edge                      a directed edge: an ordered pair of points
+--   edge p q                  the edge from the point p to the point q
+--   edges facets              the three edges of each facet: from a to b, from b to c, from c to a
+--   turned e                  the edge e the other way
+--   same_point p q            a test: the points are one
+--   same_edge d e             a test: the edges are one, in the same direction
+--   times es e                how often the edge e stands in es
+--   excess es e               how often it stands there more often than e turned
+--   IsOnce es                 no edge stands twice in es
+--   each_once es              the different edges of es
+--   open_in es                the excess, summed over the different edges of es
+--   open_edges facets         the same for the edges of the facets
+--   HasEachOpen facets pairs  no pair stands twice, and none of different points that has an excess is missing
+--   IsSumOverPairs facets     open_edges is the sum of the excess over the pairs, whatever such list they stand in
 use Rattle.std.specs.Prelude.{◌≡◌, ◌≢◌, ◌<◌, ◌-◌, ℕ, Bool, ◌&&◌, List, [], ◌∷◌, if◌then◌else◌, AllPairs, Contains, count_by, sum_by}
 use Rattle.std.specs.List.{flat_map, list_any}
 use Rattle.std.specs.Ordering.{int_eq}
@@ -21,6 +25,7 @@ pub record Edge : Type 0 where
   pub from : Point3
   pub to : Point3
 
+-- from p to q
 abbrev pub edge : Point3 → Point3 → Edge
 edge p q = record { from = p; to = q }
 
@@ -32,9 +37,11 @@ edges facets = flat_map (λ (f : Facet). edge f.a f.b ∷ edge f.b f.c ∷ edge 
 abbrev pub turned : Edge → Edge
 turned e = edge e.to e.from
 
+-- a test: the points are one
 abbrev pub same_point : Point3 → Point3 → Bool
 same_point p q = int_eq p.x q.x && (int_eq p.y q.y && int_eq p.z q.z)
 
+-- a test: the edges are one, in the same direction
 abbrev pub same_edge : Edge → Edge → Bool
 same_edge d e = same_point d.from e.from && same_point d.to e.to
 
@@ -46,6 +53,7 @@ times es e = count_by (same_edge e) es
 abbrev pub excess : List Edge → Edge → ℕ
 excess es e = times es e - times es (turned e)
 
+-- no edge stands twice
 abbrev pub IsOnce : List Edge → Type 0
 IsOnce es = AllPairs ◌≢◌ es
 
@@ -58,13 +66,15 @@ each_once (e ∷ es) = if list_any (same_edge e) es then each_once es else e ∷
 abbrev pub open_in : List Edge → ℕ
 open_in es = sum_by (excess es) (each_once es)
 
+-- the same for the edges of facets
 abbrev pub open_edges : List Facet → ℕ
 open_edges facets = open_in (edges facets)
 
--- the sum over ordered pairs of different points: any list of pairs will do that has none twice and misses none with an excess
+-- pairs that are all different, with each ordered pair of different points that has an excess among them
+pub record HasEachOpen (facets : List Facet) (pairs : List Edge) : Type 0 where
+  pub once : IsOnce pairs
+  pub whole : (e : Edge) → e.from ≢ e.to → 0 < excess (edges facets) e → Contains pairs e
+
+-- the sum over ordered pairs of different points: any list that has each open one gives the same sum
 abbrev pub IsSumOverPairs : List Facet → Type 0
-IsSumOverPairs facets =
-    (pairs : List Edge)
-    → IsOnce pairs
-    → ((e : Edge) → e.from ≢ e.to → 0 < excess (edges facets) e → Contains pairs e)
-    → sum_by (excess (edges facets)) pairs ≡ open_edges facets
+IsSumOverPairs facets = (pairs : List Edge) → HasEachOpen facets pairs → sum_by (excess (edges facets)) pairs ≡ open_edges facets

@@ -119,12 +119,13 @@ fn looked_at(
     inside_out: bool,
     dropped: u32,
 ) -> Result<Notes, Fail> {
-    let found = facets(alloc, list, inside_out)?;
-    if found.len() > 1_000 || dropped > 1_000 {
+    let facets = facets(alloc, list, inside_out)?;
+    // a mesh has a bound on both counts together, and `facets` doesn't promise how many it makes
+    if facets.len() > 1_000 || dropped > 1_000 {
         return Err("too many facets")?;
     }
     let mesh = Mesh {
-        facets: Items::from_vec(found),
+        facets: Items::from_vec(facets),
         dropped,
     };
     Ok(look(alloc, &mesh)?)

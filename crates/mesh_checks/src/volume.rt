@@ -5,7 +5,7 @@ ghost use Rattle.mesh_checks.specs.Volumes.{cross, dot, six_volume};
 use integer_laws::{difference, product, sum, wide_product};
 use seq_model::Facet;
 
-// One coordinate of a cross product.
+// One coordinate of a cross product: coordinates of at most 10 m in µm are below 2^24.
 fn minor(a: i64, b: i64, c: i64, d: i64) -> i128
     requires a { unsigned_abs a < 2 ^ 24 }
     requires b { unsigned_abs b < 2 ^ 24 }
@@ -17,6 +17,7 @@ fn minor(a: i64, b: i64, c: i64, d: i64) -> i128
     difference(wide_product(a, d), wide_product(b, c))
 }
 
+// A coordinate times a minor: one term of the inner product a · (b × c).
 fn scaled(a: i64, b: i128) -> i128
     requires a { unsigned_abs a < 2 ^ 24 }
     requires b { unsigned_abs b < 2 ^ 49 }
@@ -26,8 +27,8 @@ fn scaled(a: i64, b: i128) -> i128
     product(i128::from(a), b)
 }
 
-// Six times the volume between the facet and the origin.
-fn volume_below(facet: &Facet) -> i128
+// Six times the signed volume of the tetrahedron with the origin: negative where the facet looks toward it.
+fn tetrahedron_six_volume(facet: &Facet) -> i128
     requires { IsNearFacet facet.now }
     ensures value { result ≡ dot facet.now.a (cross facet.now.b facet.now.c) }
     ensures size { unsigned_abs result < 2 ^ 75 }
@@ -39,14 +40,14 @@ fn volume_below(facet: &Facet) -> i128
     sum(sum(along_x, along_y), along_z)
 }
 
-pub fn sum_volumes(facets: &[Facet]) -> i128
+pub fn sum_six_volumes(facets: &[Facet]) -> i128
     requires few { length facets.now ≤ 200_000 }
     requires near { All IsNearFacet facets.now }
     ensures { result ≡ six_volume facets.now }
 {
     let mut total = 0;
     for facet in facets {
-        total = sum(total, volume_below(facet));
+        total = sum(total, tetrahedron_six_volume(facet));
     }
     total
 }

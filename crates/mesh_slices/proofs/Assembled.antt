@@ -27,13 +27,13 @@ use Rattle.mesh_slices.proofs.Members.{to_flat, all_flat}
 use Rattle.mesh_slices.proofs.Running.{least_below, greatest_above, least_reached, greatest_reached}
 
 -- ---- exactly one zone
-first_pairs : (R : Zone → Zone → Type 0) (x : Zone) (xs : List Zone) → AllPairs R (x ∷ xs) → All (R x) xs
+pub first_pairs : (R : Zone → Zone → Type 0) (x : Zone) (xs : List Zone) → AllPairs R (x ∷ xs) → All (R x) xs
 first_pairs R x xs all k d h = all 0 (suc k) d (omega arith) (omega arith)
 
-rest_pairs : (R : Zone → Zone → Type 0) (x : Zone) (xs : List Zone) → AllPairs R (x ∷ xs) → AllPairs R xs
+pub rest_pairs : (R : Zone → Zone → Type 0) (x : Zone) (xs : List Zone) → AllPairs R (x ∷ xs) → AllPairs R xs
 rest_pairs R x xs all i j d p q = all (suc i) (suc j) d (omega arith) (omega arith)
 
-abbrev Rise : Zone → Zone → Type 0
+abbrev pub Rise : Zone → Zone → Type 0
 Rise y z = y.last < z.first
 
 apart : (y z : Zone) (b : ℕ) → Rise y z → HoldsBand b y → HoldsBand b z → ⊥

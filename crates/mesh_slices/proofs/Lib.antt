@@ -10,3 +10,4 @@ mod Pushes
 mod Assembled
 mod Grown
 mod SameSpots
+mod OneObject

@@ -1,17 +1,17 @@
 -- Spots round corner points have area, and so has their outline.
-use Rattle.std.proofs.Common.{◌≢◌, ◌≤◌, ℤ, pos, ◌-ℤ◌, ◌*ℤ◌, ◌≤ℤ◌, ◌<ℤ◌, List, [], ◌∷◌, length, All, Contains, refl, arith, inl}
+use Rattle.std.proofs.Common.{◌≢◌, ◌≤◌, ℤ, pos, ◌-ℤ◌, ◌*ℤ◌, ◌≤ℤ◌, ◌<ℤ◌, List, [], ◌∷◌, length, All, refl, arith, inl}
 use Rattle.std.proofs.lemmas.Int.{ints}
-use Rattle.integer_laws.specs.Members.{In-from_contains, All-in}
+use Rattle.integer_laws.specs.Members.{All-in}
 use Rattle.integer_laws.specs.Order.{lt_from, mul_positive}
 use Rattle.integer_laws.specs.Ring.{expand}
 use Rattle.integer_laws.specs.Quotients.{floor_le_ceil}
 use Rattle.seq_model.specs.declared.printer.Spot.{Spot}
-use Rattle.seq_model.specs.Outlines.{below, above, spots, Within}
+use Rattle.seq_model.specs.Outlines.{below, above, spots}
 use Rattle.seq_model.specs.Points.{Point}
 use Rattle.convex_outline.specs.Area.{three_of_area}
-use Rattle.convex_outline.specs.Corners.{at_spot, HasArea}
-use Rattle.convex_outline.specs.Keeping.{Hull}
+use Rattle.convex_outline.specs.Corners.{HasArea}
 use Rattle.mesh_slices.specs.Objects.{IsOutlineOf}
+use Rattle.mesh_slices.specs.Unique.{hull_of_outline}
 
 area_of_four : (grain margin : ℤ) (p : Point) (rest : List Spot) → pos 0 <ℤ grain → pos 1 ≤ℤ margin → pos 0 <ℤ p.d
     → HasArea (record { x = below margin p.x (p.d *ℤ grain); y = below margin p.y (p.d *ℤ grain) } ∷ record { x = above margin p.x (p.d *ℤ grain); y = below margin p.y (p.d *ℤ grain) } ∷ record { x = below margin p.x (p.d *ℤ grain); y = above margin p.y (p.d *ℤ grain) } ∷ rest)
@@ -35,17 +35,6 @@ area_of_four grain margin p rest g m d =
 spots_have_area : (grain margin : ℤ) (points : List Point) → pos 0 <ℤ grain → pos 1 ≤ℤ margin → All (λ p. pos 0 <ℤ p.d) points → spots grain margin points ≢ [] → HasArea (spots grain margin points)
 spots_have_area grain margin [] g m positive some = absurd (some refl)
 spots_have_area grain margin (p ∷ ps) g m positive some = area_of_four grain margin p _ g m (All-in (λ q. pos 0 <ℤ q.d) (p ∷ ps) p positive (inl refl))
-
-hull_of_outline : (S C : List Spot) → IsOutlineOf S C → Hull S C
-hull_of_outline S C o = record {
-  corners = o.corners;
-  keeps = record {
-    members = λ s i. In-from_contains S s (All-in (Contains S) C s o.members i);
-    within = λ s i. All-in (λ t. Within C (at_spot t)) S s o.within i;
-    to_list = λ q m. (o.inner q).0 m;
-    to_corners = λ q m. (o.inner q).1 m;
-  };
-}
 
 pub outline_has_area : (grain margin : ℤ) (points : List Point) (C : List Spot) → pos 0 <ℤ grain → pos 1 ≤ℤ margin → All (λ p. pos 0 <ℤ p.d) points → spots grain margin points ≢ [] → IsOutlineOf (spots grain margin points) C → 3 ≤ length C
 outline_has_area grain margin points C g m positive some o =

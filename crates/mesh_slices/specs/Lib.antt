@@ -14,3 +14,4 @@ pub mod CoveringEdges
 pub mod CoveringFacets
 pub mod CoveringMeshes
 pub mod CoveringHeights
+pub mod Unique

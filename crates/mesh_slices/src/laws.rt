@@ -1,6 +1,6 @@
 //! Laws over the definitions. Each is the contract of a call that does nothing.
 
-ghost use Rattle.std.specs.Prelude.{ℕ, ℤ, pos, ◌≤ℤ◌, List, All, Contains, ◌↔◌};
+ghost use Rattle.std.specs.Prelude.{◌≡◌, ℕ, ℤ, pos, ◌≤ℤ◌, List, All, Contains, ◌↔◌};
 ghost use Rattle.seq_model.specs.declared.job.Job.{Job};
 ghost use Rattle.seq_model.specs.declared.job.Object.{Object};
 ghost use Rattle.seq_model.specs.declared.mesh.Facet.{Facet};
@@ -15,6 +15,7 @@ ghost use Rattle.seq_model.specs.Scenes.{Scene, Valid, Least, scene_of_files, de
 ghost use Rattle.convex_outline.specs.Corners.{at_spot};
 ghost use Rattle.mesh_slices.specs.Agreement.{Agree, HasZonesOf, IsMadeFrom};
 ghost use Rattle.mesh_slices.specs.Cover.{SpacePoint, IsOn, HasBand, Covers, ZonesCover};
+ghost use Rattle.mesh_slices.specs.Objects.{IsOutlineOf, IsObjectOf};
 
 /// Scenes that agree have the same valid plans.
 pub fn scenes_that_agree_have_the_same_valid_plans()
@@ -64,4 +65,14 @@ pub fn each_point_of_a_mesh_has_a_band()
 /// No point of a mesh in a band is lost: it lies, in grains, within the corners of the zone that holds the band.
 pub fn zones_cover_their_bands()
     ensures { (printer : Printer) (facets : List Facet) (o : Object) → HasZonesOf printer facets o → ZonesCover printer facets o }
+{}
+
+/// Spots have one outline: where two bands have one convex hull, they have one list of corners.
+pub fn one_outline()
+    ensures { (S C D : List Spot) → IsOutlineOf S C → IsOutlineOf S D → C ≡ D }
+{}
+
+/// A mesh has one object, so the contract of `object` says which one is answered.
+pub fn one_object()
+    ensures { (name : List ℕ) (facets : List Facet) (printer : Printer) (o q : Object) → IsObjectOf name facets printer o → IsObjectOf name facets printer q → o ≡ q }
 {}

@@ -103,6 +103,17 @@ fn point(place: (u8, u8), z: u8) -> Point3
     }
 }
 
+fn add(facets: &mut Vec<Facet>, a: Point3, b: Point3, c: Point3) -> Result<(), AllocError>
+    requires a { IsNear a }
+    requires b { IsNear b }
+    requires c { IsNear c }
+    requires facets { All IsNearFacet facets.old.items }
+    ensures { OnOk result (All IsNearFacet facets.new.items) }
+{
+    facets.push(Facet { a, b, c })?;
+    Ok(())
+}
+
 // The facets of a base at a height.
 fn add_base(facets: &mut Vec<Facet>, base: &[(u8, u8)], z: u8) -> Result<(), AllocError>
     requires { All IsNearFacet facets.old.items }
@@ -110,11 +121,7 @@ fn add_base(facets: &mut Vec<Facet>, base: &[(u8, u8)], z: u8) -> Result<(), All
 {
     for (k, place) in base.iter().enumerate() {
         let next = base.get(k + 1).unwrap_or(place);
-        facets.push(Facet {
-            a: point(base[0], z),
-            b: point(*next, z),
-            c: point(*place, z),
-        })?;
+        add(facets, point(base[0], z), point(*next, z), point(*place, z))?;
     }
     Ok(())
 }
@@ -127,16 +134,10 @@ fn add_sides(facets: &mut Vec<Facet>, solid: &Solid) -> Result<(), AllocError>
     let (base, low, high, top) = *solid;
     for (k, place) in base.iter().enumerate() {
         let next = base.get(k + 1).unwrap_or(&base[0]);
-        facets.push(Facet {
-            a: point(*place, low),
-            b: point(*next, low),
-            c: point(top.unwrap_or(*next), high),
-        })?;
-        facets.push(Facet {
-            a: point(*place, low),
-            b: point(top.unwrap_or(*next), high),
-            c: point(top.unwrap_or(*place), high),
-        })?;
+        let above = point(top.unwrap_or(*place), high);
+        let beyond = point(top.unwrap_or(*next), high);
+        add(facets, point(*place, low), point(*next, low), beyond)?;
+        add(facets, point(*place, low), beyond, above)?;
     }
     Ok(())
 }

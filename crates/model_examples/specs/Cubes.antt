@@ -2,14 +2,17 @@
 -- grid of 100 extents, under a printer whose tip has a nozzle around it and a gantry above.
 --
 --   spot x y, dir x y     the spot and the direction of these numbers
+--   east, northeast, north, west, southwest, south     directions, (1, 0) first
 --   at x y                the point of these whole numbers, half x y the point of their halves
 --   cube, wedge           the outlines of a cube and of a wedge, each the same for all bands
 --   nozzle, gantry        the corners of the two parts
 --   object_of outline     an object of two bands with this outline, which reaches from -1 to 21
+--   facet                 a triangle from the origin up to 15 mm
 --   first_contact         object 0 before object 1 by the nozzle; second_contact is the other way round
 use Rattle.std.specs.Prelude.{List, [], ◌∷◌, ℤ, pos, negsuc}
 use Rattle.seq_model.specs.Points.{Point}
 use Rattle.seq_model.specs.declared.job.Object.{Object}
+use Rattle.seq_model.specs.declared.mesh.Facet.{Facet}
 use Rattle.seq_model.specs.declared.printer.Spot.{Spot}
 use Rattle.seq_model.specs.declared.tree.Contact.{Contact}
 use Rattle.seq_model.specs.declared.tree.Dir.{Dir}
@@ -19,6 +22,24 @@ spot x y = record { x = x; y = y }
 
 abbrev pub dir : ℤ → ℤ → Dir
 dir x y = record { x = x; y = y }
+
+abbrev pub east : Dir
+east = dir (pos 1) (pos 0)
+
+abbrev pub northeast : Dir
+northeast = dir (pos 1) (pos 1)
+
+abbrev pub north : Dir
+north = dir (pos 0) (pos 1)
+
+abbrev pub west : Dir
+west = dir (negsuc 0) (pos 0)
+
+abbrev pub southwest : Dir
+southwest = dir (negsuc 0) (negsuc 0)
+
+abbrev pub south : Dir
+south = dir (pos 0) (negsuc 0)
 
 abbrev pub at : ℤ → ℤ → Point
 at x y = record { x = x; y = y; d = pos 1 }
@@ -51,3 +72,11 @@ first_contact = record { i = 0; zi = 0; part = 1; zj = 0; j = 1 }
 
 abbrev pub second_contact : Contact
 second_contact = record { i = 1; zi = 0; part = 1; zj = 0; j = 0 }
+
+-- from the origin up to two corners at 15 mm
+abbrev pub facet : Facet
+facet = record {
+  a = record { x = pos 0; y = pos 0; z = pos 0 };
+  b = record { x = pos 3_000; y = pos 0; z = pos 15_000 };
+  c = record { x = pos 0; y = pos 3_000; z = pos 15_000 };
+}

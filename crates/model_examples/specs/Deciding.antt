@@ -26,10 +26,10 @@ both true true e = (refl, refl)
 both true false e = absurd (subst T (sym e) tt)
 both false b e = absurd (subst T (sym e) tt)
 
-le_true : (a b : ℤ) → le_z a b ≡ true → a ≤ℤ b
+pub le_true : (a b : ℤ) → le_z a b ≡ true → a ≤ℤ b
 le_true a b e = le_z_yes (subst T (sym e) tt)
 
-lt_true : (a b : ℤ) → lt_z a b ≡ true → a <ℤ b
+pub lt_true : (a b : ℤ) → lt_z a b ≡ true → a <ℤ b
 lt_true a b e = lt_z_yes (subst T (sym e) tt)
 
 nat_lt_true : (a b : ℕ) → ltb a b ≡ true → a < b

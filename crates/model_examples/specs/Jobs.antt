@@ -1,4 +1,9 @@
 -- The jobs of the worked examples, with the proofs that their printer and their objects are sound.
+--
+--   nozzle_part, gantry_part   the listed parts: the nozzle at every band, and the gantry from two bands above
+--   printer                    the tip with both, over a plate of 100 by 100 grains of 1 mm
+--   two_cubes, two_wedges, three_cubes   jobs of cubes and wedges of two bands
+--   tall_and_low               a cube of four bands and one of two
 use Rattle.std.proofs.Common.{◌≡◌, ◌∙◌, sym, subst, ◌<◌, ◌≤◌, List, [], ◌∷◌, length, refl, pos, negsuc, true, None, inl, inr, lit<, lit≤, codes, arith}
 use Rattle.std.proofs.lemmas.Option.{none-some, same_Some}
 use lib.Signed.{le_z_yes, lt_z_yes}
@@ -96,4 +101,27 @@ three_cubes = record {
   printer = printer;
   objects = object_of cube ∷ object_of cube ∷ object_of cube ∷ [];
   sound = record { some = lit≤ tt; few = lit≤ tt; each = all_of IsSoundObject (object_of cube ∷ object_of cube ∷ object_of cube ∷ []) (sound_cube, (sound_cube, (sound_cube, tt))) };
+}
+
+-- a cube of twice the height, in four bands
+abbrev pub tall_cube : Object
+tall_cube = record { name = []; height = pos 40000; bands = 4; low = spot (negsuc 0) (negsuc 0); high = spot (pos 21) (pos 21); zones = record { corners = cube; first = 0; last = 3 } ∷ [] }
+
+pub sound_tall_cube : IsSoundObject tall_cube
+sound_tall_cube = record {
+  few_bands = lit≤ tt;
+  zones = record {
+    some = lit≤ tt;
+    each = all_of IsSoundZone (record { corners = cube; first = 0; last = 3 } ∷ []) (record { corners = cube_corners; area = lit≤ tt; near = are_near_is 1_001_000 cube refl; rises = lit≤ tt }, tt);
+    rise = λ i j d l m. absurd (omega (arith, l, m));
+    end = all_of (λ (z : Zone). z.last < 4) (record { corners = cube; first = 0; last = 3 } ∷ []) (lit< tt, tt);
+  };
+  extremes = record { west = refl; east = refl; south = refl; north = refl };
+}
+
+abbrev pub tall_and_low : Job
+tall_and_low = record {
+  printer = printer;
+  objects = tall_cube ∷ object_of cube ∷ [];
+  sound = record { some = lit≤ tt; few = lit≤ tt; each = all_of IsSoundObject (tall_cube ∷ object_of cube ∷ []) (sound_tall_cube, (sound_cube, tt)) };
 }

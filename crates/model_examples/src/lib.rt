@@ -7,6 +7,11 @@
 //! Nothing stands on this crate. It is here so that a definition that says something else than was meant isn't proved.
 #![tactic(auto)]
 
+pub mod bands;
 pub mod outlines;
 pub mod pairs;
+pub mod sides;
+pub mod splits;
 pub mod systems;
+pub mod trees;
+pub mod walks;

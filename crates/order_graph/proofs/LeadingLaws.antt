@@ -2,10 +2,12 @@
 use Rattle.std.proofs.Common.{◌≡◌, ◌≢◌, ◌↔◌, ℕ, ◌+◌, ◌-◌, ◌<◌, cond, eqb, List, [], ◌∷◌, ◌++◌, length, get_or, set, take, drop, replicate, Option, Some, None, IsSome, ⊎_elim, refl, sym, subst, ap, ap₂, ◌∙◌, arith, get_or-set_same, get_or-set_other, length-set}
 use Rattle.std.proofs.lemmas.Bool.{false≢true, cases_eq, cases_lt, eq-eqb, ne_eqb}
 use Rattle.std.proofs.lemmas.List.{get_or_past, length_push, drop_at, take_at}
-use Rattle.order_graph.specs.Orders.{IsOnce, IsOrdered, Leads, EachNext, ClosesCycle}
+use Rattle.std.proofs.lemmas.List.Elements.{Contains-push}
+use Rattle.order_graph.specs.Orders.{IsOnce, IsOrdered, Leads, EachNext, IsSimpleCycle, ClosesCycle}
 use Rattle.order_graph.specs.Sets.{Has, IsBefore, AreNoted}
 use Rattle.order_graph.specs.Walks.{IsNext, IsWalk, ComesRound, IsKnown, AllKnown, LeadsOn}
 use Rattle.order_graph.proofs.Lists.{once_turned}
+use Rattle.order_graph.proofs.NoteLaws.{still_ordered}
 use Rattle.order_graph.proofs.NextLaws.{empty, no_next, next_cases}
 use Rattle.order_graph.proofs.SetLaws.{nothing, has_unless}
 use Rattle.order_graph.proofs.WayLaws.{EachNext-weaker, carried}
@@ -63,8 +65,8 @@ one_known before goal next i j within leads order unknown known =
           (next_cases next i j a b within step);
     }
 
--- Where the search stands. `known` has the objects that have a next one, and the goal; `todo` those of them before which an
--- unknown one may be ordered.
+-- Where the search stands. `known` has the objects that have a next one, and the goal; `todo` those of them before which
+-- an unknown one may be ordered.
 pub record IsSearch (before : List ℕ) (goal : ℕ) (next : List (Option ℕ)) (known todo : ℕ) : Type 0 where
   pub long : length next ≡ 16
   pub leads : LeadsOn before goal next
@@ -176,9 +178,13 @@ closes orders before goal next start way noted leads known apart walk =
     let whole : walk.front ++ walk.last ∷ [] ≡ start ∷ parts.0 ++ goal ∷ [] = ap₂ (λ front last. front ++ last ∷ []) parts.1 at_goal in
     let all : way ≡ start ∷ parts.0 ++ goal ∷ [] = walk.whole ∙ whole in
     let begins : drop (length way - 1) way ++ take (length way - 1) way ≡ goal ∷ start ∷ parts.0 = ap (λ w. drop (length w - 1) w ++ take (length w - 1) w) all ∙ turned (start ∷ parts.0) goal in
+    let way_back = EachNext-weaker (IsNext next) (IsOrdered (orders ++ (goal, start) ∷ [])) (λ a b step. still_ordered orders goal start a b ((noted b a).0 (leads.order a b step))) (start ∷ parts.0 ++ goal ∷ []) (subst (EachNext (IsNext next)) whole steps) in
     record {
       others = parts.0;
       begins = begins;
-      once = subst IsOnce (sym begins) (once_turned (start ∷ parts.0) goal (subst IsOnce all walk.once));
-      back = EachNext-weaker (IsNext next) (IsOrdered orders) (λ a b step. (noted b a).0 (leads.order a b step)) (start ∷ parts.0 ++ goal ∷ []) (subst (EachNext (IsNext next)) whole steps);
+      is_cycle = subst (IsSimpleCycle (orders ++ (goal, start) ∷ [])) (sym begins) (record {
+        some = omega arith;
+        once = once_turned (start ∷ parts.0) goal (subst IsOnce all walk.once);
+        round = (Contains-push orders (goal, start), way_back);
+      });
     }

@@ -25,13 +25,13 @@ ordered_cases orders i j a b order = ⊎_elim
     (λ new. inr (ap (λ o. o.0) (sym new), ap (λ o. o.1) (sym new)))
     (Contains-push_cases orders (i, j) (a, b) order)
 
-other_first : (orders : List (ℕ × ℕ)) (i j a b : ℕ) → a ≢ i → IsOrdered (orders ++ (i, j) ∷ []) a b → IsOrdered orders a b
+pub other_first : (orders : List (ℕ × ℕ)) (i j a b : ℕ) → a ≢ i → IsOrdered (orders ++ (i, j) ∷ []) a b → IsOrdered orders a b
 other_first orders i j a b apart order = ⊎_elim (λ old. old) (λ new. absurd (apart new.0)) (ordered_cases orders i j a b order)
 
 other_second : (orders : List (ℕ × ℕ)) (i j a b : ℕ) → b ≢ j → IsOrdered (orders ++ (i, j) ∷ []) a b → IsOrdered orders a b
 other_second orders i j a b apart order = ⊎_elim (λ old. old) (λ new. absurd (apart new.1)) (ordered_cases orders i j a b order)
 
-still_ordered : (orders : List (ℕ × ℕ)) (i j a b : ℕ) → IsOrdered orders a b → IsOrdered (orders ++ (i, j) ∷ []) a b
+pub still_ordered : (orders : List (ℕ × ℕ)) (i j a b : ℕ) → IsOrdered orders a b → IsOrdered (orders ++ (i, j) ∷ []) a b
 still_ordered orders i j a b = Contains-append_left orders ((i, j) ∷ []) (a, b)
 
 -- the set of the second object of one more order

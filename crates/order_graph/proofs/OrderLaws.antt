@@ -1,10 +1,12 @@
--- An order that keeps all orders and a cycle of them exclude each other; and a cycle that an order closes shows what leads where.
-use Rattle.std.proofs.Common.{◌≡◌, ◌≢◌, ℕ, ◌<◌, ◌≤◌, List, [], ◌∷◌, ◌++◌, length, get_or, take, drop, Contains, Result, Ok, Err, IsOk, IsErr, IfOk, IfErr, MatchResult, ◌↔◌, ◌⊎◌, inl, inr, ⊎_elim, refl, ap, sym, subst, ◌∙◌, arith}
+-- An order that keeps all orders and a cycle of them exclude each other; and a cycle that an order closes shows what leads
+-- where.
+use Rattle.std.proofs.Common.{◌≡◌, ◌≢◌, ℕ, suc, ◌<◌, ◌≤◌, List, [], ◌∷◌, ◌++◌, length, get_or, take, drop, All, Contains, Result, Ok, Err, IsOk, IsErr, IfOk, IfErr, MatchResult, ◌↔◌, ◌⊎◌, inl, inr, ⊎_elim, refl, ap, sym, subst, ◌∙◌, arith}
 use Rattle.std.proofs.lemmas.Bool.{false≢true, cases_order}
 use Rattle.std.proofs.lemmas.List.{take-append-drop}
 use Rattle.std.proofs.lemmas.List.Elements.{All-nil, All-contains, All-contains_itself, All-weaker, All-push, All-take, Contains-append_left, Contains-push_cases}
 use Rattle.order_graph.specs.Orders.{IsAmong, IsGraph, Leads, IsOnce, IsWay, IsSimpleCycle, ClosesCycle, StandsBefore, IsOrder, HasCycle, HasOrder}
 use Rattle.order_graph.proofs.Lists.{few, full}
+use Rattle.order_graph.proofs.NoteLaws.{other_first}
 
 nothing_leads : {a b : ℕ} → Leads [] a b → ⊥
 nothing_leads (Leads.one a b order) = omega (arith, order.1)
@@ -54,8 +56,21 @@ leads_along : (orders : List (ℕ × ℕ)) (others : List ℕ) (a b : ℕ) → I
 leads_along orders [] a b way = Leads.one a b way.0
 leads_along orders (k ∷ others) a b way = Leads.more a k b way.0 (leads_along orders others k b way.1)
 
+-- a way that leaves from no i doesn't take an order of i before j
+way_without : (orders : List (ℕ × ℕ)) (i j : ℕ) (objects : List ℕ) (last : ℕ) → All (λ k. i ≢ k) objects → IsWay (orders ++ (i, j) ∷ []) (objects ++ last ∷ []) → IsWay orders (objects ++ last ∷ [])
+way_without orders i j [] last apart way = tt
+way_without orders i j (a ∷ []) last apart way = (other_first orders i j a last (λ same. apart 0 0 (omega arith) (sym same)) way.0, tt)
+way_without orders i j (a ∷ b ∷ rest) last apart way =
+    (other_first orders i j a b (λ same. apart 0 0 (omega arith) (sym same)) way.0, way_without orders i j (b ∷ rest) last (λ k d within. apart (suc k) d (omega arith)) way.1)
+
+-- the held orders lead back in a cycle that an order closes
+pub way_back : (orders : List (ℕ × ℕ)) (i j : ℕ) (objects : List ℕ) → (closes : ClosesCycle orders i j objects) → IsWay orders (j ∷ closes.others ++ i ∷ [])
+way_back orders i j objects closes =
+    let cycle = subst (IsSimpleCycle (orders ++ (i, j) ∷ [])) closes.begins closes.is_cycle in
+    way_without orders i j (j ∷ closes.others) i (λ k d within. cycle.once 0 (suc k) d (omega arith) (omega arith)) cycle.round.1
+
 pub leads_if_closes : (orders : List (ℕ × ℕ)) (i j : ℕ) (objects : List ℕ) → ClosesCycle orders i j objects → Leads orders j i
-leads_if_closes orders i j objects closes = leads_along orders closes.others j i closes.back
+leads_if_closes orders i j objects closes = leads_along orders closes.others j i (way_back orders i j objects closes)
 
 pub has_simple_cycle : (orders : List (ℕ × ℕ)) (objects : List ℕ) → IsSimpleCycle orders objects → HasCycle orders
 has_simple_cycle orders [] cycle = absurd (omega (arith, cycle.some))

@@ -4,9 +4,9 @@ use Rattle.std.proofs.lemmas.Bool.{cases_eq, cases_lt, false≢true}
 use Rattle.std.proofs.lemmas.List.{length_push, length-reverse, get_or_append_left, get_or_at, get_or_default}
 use Rattle.std.proofs.lemmas.List.Elements.{Contains-get_or, All-contains_itself, All-weaker, Contains-append_left, Contains-push, Contains-push_cases}
 use Rattle.std.proofs.lemmas.Nat.Bits.{bit_at_above}
-use Rattle.order_graph.specs.Orders.{IsAmong, IsOrdered, EachNext, IsSimpleCycle, IsOrder, StandsBefore}
+use Rattle.order_graph.specs.Orders.{IsAmong, IsOnce, IsOrdered, EachNext, IsSimpleCycle, IsOrder, StandsBefore}
 use Rattle.order_graph.specs.Sets.{Has, IsBefore, AreNoted}
-use Rattle.order_graph.specs.Walks.{IsNext, IsNextBelow, IsWalk, ComesRound, IsFree, NoneFree, IsEarlier, IsPlacing}
+use Rattle.order_graph.specs.Walks.{IsNext, IsNextBelow, IsWalk, ComesRound, IsFree, NoneFree, LeadsBack}
 use Rattle.order_graph.proofs.Lists.{room, once_push, once_reverse}
 use Rattle.order_graph.proofs.NextLaws.{no_next, next_cases}
 use Rattle.order_graph.proofs.WayLaws.{EachNext-weaker, carried, round_back}
@@ -38,7 +38,7 @@ one_tried before left rest k a t order has fewer gone others = record {
 pub all_tried : (before : List ℕ) (left rest : ℕ) → AreTried before left rest → ((k : ℕ) → Has rest k → ⊥) → NoneFree before left
 all_tried before left rest t none k has = t.tried k has (none k)
 
--- what is left over but for `rest` has an earlier one as its next object
+-- what is left over but for `rest` has as its next object one that is left and ordered before it
 pub record AreLinked (before : List ℕ) (left rest : ℕ) (next : List (Option ℕ)) : Type 0 where
   pub long : length next ≡ 16
   pub inner : (k : ℕ) → Has rest k → Has left k
@@ -55,16 +55,16 @@ unlinked before left = record {
 
 pub one_linked : (before : List ℕ) (left rest : ℕ) (next : List (Option ℕ)) (k both : ℕ) → AreLinked before left rest next → NoneFree before left → k < 16 → Has rest k → ((a : ℕ) → Has both a ↔ (IsBefore before a k × Has left a)) → (one : Option ℕ) → MatchOption one ((a : ℕ) → Has both a → ⊥) (λ a. (a < 16) × Has both a) → (fewer : ℕ) → (Has fewer k → ⊥) → ((j : ℕ) → j ≢ k → Has fewer j ↔ Has rest j) → AreLinked before left fewer (set next k one)
 one_linked before left rest next k both t none_free within has are None none fewer gone others =
-    let earlier = none_free k (t.inner k has) in
-    absurd (none earlier.0 ((are earlier.0).1 (earlier.1, earlier.2)))
+    let other = none_free k (t.inner k has) in
+    absurd (none other.0 ((are other.0).1 (other.1, other.2)))
 one_linked before left rest next k both t none_free within has are (Some a) one fewer gone others =
     let fits : k < length next = omega (arith, t.long) in
-    let is_earlier = (are a).0 one.1 in
+    let is_before = (are a).0 one.1 in
     record {
       long = length-set next k (Some a) ∙ t.long;
       inner = λ j is. ⊎_elim (λ same. absurd (gone (subst (Has fewer) same is))) (λ apart. t.inner j ((others j apart).0 is)) (cases_eq j k);
       step = λ x y is. ⊎_elim
-          (λ new. (subst (λ b. IsBefore before y b) (sym new.0) (subst (λ c. IsBefore before c k) (sym new.1) is_earlier.0), subst (Has left) (sym new.1) is_earlier.1))
+          (λ new. (subst (λ b. IsBefore before y b) (sym new.0) (subst (λ c. IsBefore before c k) (sym new.1) is_before.0), subst (Has left) (sym new.1) is_before.1))
           (λ old. t.step x y old.1)
           (next_cases next k a x y fits is);
       some = λ j is out. ⊎_elim
@@ -73,31 +73,31 @@ one_linked before left rest next k both t none_free within has are (Some a) one 
           (cases_eq j k);
     }
 
-pub all_linked : (before : List ℕ) (left rest : ℕ) (next : List (Option ℕ)) → AreLinked before left rest next → ((k : ℕ) → Has rest k → ⊥) → IsEarlier before left next
+pub all_linked : (before : List ℕ) (left rest : ℕ) (next : List (Option ℕ)) → AreLinked before left rest next → ((k : ℕ) → Has rest k → ⊥) → LeadsBack before left next
 all_linked before left rest next t none = record { step = t.step; some = λ b has. t.some b has (none b) }
 
-pub earlier_below : (before : List ℕ) (left : ℕ) (next : List (Option ℕ)) → left < 65536 → IsEarlier before left next → IsNextBelow 16 next
-earlier_below before left next fits earlier b a is = fits_below left a fits (earlier.step b a is).1
+pub backwards_below : (before : List ℕ) (left : ℕ) (next : List (Option ℕ)) → left < 65536 → LeadsBack before left next → IsNextBelow 16 next
+backwards_below before left next fits backwards b a is = fits_below left a fits (backwards.step b a is).1
 
 -- a way over what is left doesn't end
-pub no_end : (before : List ℕ) (left : ℕ) (next : List (Option ℕ)) (start : ℕ) (way : List ℕ) → IsEarlier before left next → Has left start → IsWalk next start way → ⊥
-no_end before left next start way earlier has walk =
+pub no_end : (before : List ℕ) (left : ℕ) (next : List (Option ℕ)) (start : ℕ) (way : List ℕ) → LeadsBack before left next → Has left start → IsWalk next start way → ⊥
+no_end before left next start way backwards has walk =
     let starts : get_or (walk.front ++ walk.last ∷ []) 0 0 ≡ start = ap (λ w. get_or w 0 0) (sym walk.whole) ∙ walk.starts in
     let steps = subst (EachNext (IsNext next)) walk.whole walk.steps in
-    let last_left = carried (IsNext next) (Has left) (λ b a is of_b. (earlier.step b a is).1) walk.front walk.last steps (subst (Has left) (sym starts) has) in
-    false≢true (subst IsSome walk.ends (earlier.some walk.last last_left))
+    let last_left = carried (IsNext next) (Has left) (λ b a is of_b. (backwards.step b a is).1) walk.front walk.last steps (subst (Has left) (sym starts) has) in
+    false≢true (subst IsSome walk.ends (backwards.some walk.last last_left))
 
 -- an object that isn't its own next one comes round over another
 two : (next : List (Option ℕ)) (first : ℕ) (rest objects : List ℕ) → objects ≡ first ∷ rest → (IsNext next first first → ⊥) → EachNext (IsNext next) (first ∷ rest ++ first ∷ []) → 2 ≤ length objects
 two next first [] objects whole apart round = absurd (apart round.0)
 two next first (x ∷ rest) objects whole apart round = let long : length objects ≡ length rest + 2 = ap length whole ∙ omega arith in omega arith
 
--- what comes round by earlier objects is a cycle, last object first
-pub cycle_from_ring : (orders : List (ℕ × ℕ)) (before : List ℕ) (left : ℕ) (next : List (Option ℕ)) → AreNoted orders before → ((a b : ℕ) → IsBefore before a b → a ≢ b) → IsEarlier before left next → (objects : List ℕ) → ComesRound next objects → IsSimpleCycle orders (reverse objects)
-cycle_from_ring orders before left next noted apart earlier objects ring = record {
-  some = omega (arith, length-reverse objects, two next ring.first ring.rest objects ring.whole (λ is. apart ring.first ring.first (earlier.step ring.first ring.first is).0 refl) ring.round);
+-- what comes round backwards is a cycle, last object first
+pub cycle_from_ring : (orders : List (ℕ × ℕ)) (before : List ℕ) (left : ℕ) (next : List (Option ℕ)) → AreNoted orders before → ((a b : ℕ) → IsBefore before a b → a ≢ b) → LeadsBack before left next → (objects : List ℕ) → ComesRound next objects → IsSimpleCycle orders (reverse objects)
+cycle_from_ring orders before left next noted apart backwards objects ring = record {
+  some = omega (arith, length-reverse objects, two next ring.first ring.rest objects ring.whole (λ is. apart ring.first ring.first (backwards.step ring.first ring.first is).0 refl) ring.round);
   once = once_reverse objects ring.once;
-  round = EachNext-weaker (λ x y. IsNext next y x) (IsOrdered orders) (λ a b is. (noted b a).0 (earlier.step b a is).0) _ (subst (λ xs. EachNext (λ x y. IsNext next y x) (reverse xs ++ take 1 (reverse xs))) (sym ring.whole) (round_back (IsNext next) ring.first ring.rest ring.round));
+  round = EachNext-weaker (λ x y. IsNext next y x) (IsOrdered orders) (λ a b is. (noted b a).0 (backwards.step b a is).0) _ (subst (λ xs. EachNext (λ x y. IsNext next y x) (reverse xs ++ take 1 (reverse xs))) (sym ring.whole) (round_back (IsNext next) ring.first ring.rest ring.round));
 }
 
 stands_before_push : (objects : List ℕ) (k a b : ℕ) → StandsBefore objects a b → StandsBefore (objects ++ k ∷ []) a b
@@ -119,6 +119,13 @@ before_last objects k a has = record {
   first = get_or_append_left objects (k ∷ []) 0 has.0 has.1 ∙ get_or_default objects has.0 0 a has.1 ∙ has.2;
   second = get_or_at objects k [] 0 (length objects) refl;
 }
+
+-- where the placing stands: the objects that aren't left, each once and after all that is ordered before it
+pub record IsPlacing (n : ℕ) (before : List ℕ) (left : ℕ) (objects : List ℕ) : Type 0 where
+  pub within : (k : ℕ) → Has left k → k < n
+  pub listed : (k : ℕ) → Contains objects k ↔ ((k < n) × (Has left k → ⊥))
+  pub once : IsOnce objects
+  pub kept : (a b : ℕ) → IsBefore before a b → Contains objects b → StandsBefore objects a b
 
 pub none_placed : (n : ℕ) (before : List ℕ) (left : ℕ) → ((k : ℕ) → Has left k ↔ (k < n)) → IsPlacing n before left []
 none_placed n before left all = record {

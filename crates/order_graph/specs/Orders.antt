@@ -10,10 +10,10 @@
 --   IsOnce objects                  no object stands twice in the list
 --   EachNext R objects              R holds from each object of the list to the next one
 --   IsWay orders objects            each object of the list is ordered before the next one
---   IsSimpleCycle orders objects    two objects or more, each once, each ordered before the next and the last before the first
---   ClosesCycle orders i j objects  i, j and others, each once, where the orders lead from j over the others to i
+--   IsSimpleCycle orders objects    two objects or more, each once and before the next, and the last before the first
+--   ClosesCycle orders i j objects  i, j and others: a cycle of the orders together with (i, j)
 --   StandsBefore objects a b        a has an earlier place in the list than b
---   IsOrder n orders objects        all n objects, each once, and the first object of each order stands before its second
+--   IsOrder n orders objects        all n objects, each once, and each order's first object stands before its second
 --   HasOrder n orders               there is such a list
 use Rattle.std.specs.Prelude.{◌≡◌, ◌≢◌, ◌↔◌, ℕ, ◌<◌, ◌≤◌, List, [], ◌∷◌, ◌++◌, length, slice_index, take, All, AllPairs, Contains}
 
@@ -63,8 +63,7 @@ pub record IsSimpleCycle (orders : List (ℕ × ℕ)) (objects : List ℕ) : Typ
 pub record ClosesCycle (orders : List (ℕ × ℕ)) (i j : ℕ) (objects : List ℕ) : Type 0 where
   pub others : List ℕ
   pub begins : objects ≡ i ∷ j ∷ others
-  pub once : IsOnce objects
-  pub back : IsWay orders (j ∷ others ++ i ∷ [])
+  pub is_cycle : IsSimpleCycle (orders ++ (i, j) ∷ []) objects
 
 pub record StandsBefore (objects : List ℕ) (a b : ℕ) : Type 0 where
   pub earlier : ℕ

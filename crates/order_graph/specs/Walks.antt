@@ -1,10 +1,11 @@
--- What the searches behind `add` and `complete` find. Each of 16 objects has a next object or none, and a set `before` of those
--- that are ordered before it.
+-- What the searches behind `add` and `complete` find. Each of 16 objects has a next object or none, and a set `before`
+-- of those that are ordered before it.
 --
 --   IsNext next a b                     b is the next object of a
 --   IsNextBelow n next                  each next object is below n
 --   IsWalk next start way               from start over each one's next object to one that has none, each once
---   ComesRound next objects             each once, each one's next one is the next of the list, and the last one's the first
+--   ComesRound next objects             each once, each one's next one follows it in the list, and the last one's is the first
+--   Follows next start trail            the trail is the walk from start, or goes round
 --
 --   IsKnown next goal a                 a is the goal, or has a next object
 --   AllKnown before next goal           what is ordered before a known object is known
@@ -12,11 +13,12 @@
 --
 --   IsFree before left k                k is left to be placed, and nothing that is left is ordered before it
 --   NoneFree before left                before each object that is left another one is ordered
---   IsEarlier before left next          for each object that is left the next one is left and ordered before it
---   IsPlacing n before left objects     what isn't left, each once and after all that is ordered before it
-use Rattle.std.specs.Prelude.{◌≡◌, ◌≢◌, ◌↔◌, ℕ, ◌<◌, List, [], ◌∷◌, ◌++◌, slice_index, slice_index_or, Option, Some, None, IsSome, Contains}
-use Rattle.order_graph.specs.Orders.{IsOnce, EachNext, StandsBefore}
+--   LeadsBack before left next          for each object that is left the next one is left and ordered before it
+use Rattle.std.specs.Prelude.{◌≡◌, ◌≢◌, ℕ, ◌<◌, List, [], ◌∷◌, ◌++◌, slice_index, slice_index_or, Option, Some, None, IsSome}
+use Rattle.order_graph.specs.Orders.{IsOnce, EachNext}
 use Rattle.order_graph.specs.Sets.{Has, IsBefore}
+use Rattle.order_graph.specs.declared.walk.Trail.{Trail}
+use Rattle.order_graph.specs.declared.walk.Trail.TheVariants as Trails
 
 abbrev pub IsNext : List (Option ℕ) → ℕ → ℕ → Type 0
 IsNext next a b = slice_index_or next a None ≡ Some b
@@ -40,6 +42,10 @@ pub record ComesRound (next : List (Option ℕ)) (objects : List ℕ) : Type 0 w
   pub once : IsOnce objects
   pub round : EachNext (IsNext next) (first ∷ rest ++ first ∷ [])
 
+abbrev pub Follows : List (Option ℕ) → ℕ → Trail → Type 0
+Follows next start (Trails.End way) = IsWalk next start way
+Follows next start (Trails.Round objects) = ComesRound next objects
+
 abbrev pub IsKnown : List (Option ℕ) → ℕ → ℕ → Type 0
 IsKnown next goal a = a ≢ goal → IsSome (slice_index_or next a None)
 
@@ -60,12 +66,6 @@ pub record IsFree (before : List ℕ) (left k : ℕ) : Type 0 where
 abbrev pub NoneFree : List ℕ → ℕ → Type 0
 NoneFree before left = (k : ℕ) → Has left k → (a : ℕ) × IsBefore before a k × Has left a
 
-pub record IsEarlier (before : List ℕ) (left : ℕ) (next : List (Option ℕ)) : Type 0 where
+pub record LeadsBack (before : List ℕ) (left : ℕ) (next : List (Option ℕ)) : Type 0 where
   pub step : (b a : ℕ) → IsNext next b a → IsBefore before a b × Has left a
   pub some : (b : ℕ) → Has left b → IsSome (slice_index_or next b None)
-
-pub record IsPlacing (n : ℕ) (before : List ℕ) (left : ℕ) (objects : List ℕ) : Type 0 where
-  pub within : (k : ℕ) → Has left k → k < n
-  pub listed : (k : ℕ) → Contains objects k ↔ ((k < n) × (Has left k → ⊥))
-  pub once : IsOnce objects
-  pub kept : (a b : ℕ) → IsBefore before a b → Contains objects b → StandsBefore objects a b

@@ -2,9 +2,10 @@ ghost use Rattle.std.specs.Prelude.{◌≡◌, ℕ, ◌≤◌, List, take, rever
 
 use std::marker::Model;
 
-/// Different objects of which each is ordered before the next one, and the last before the first.
+/// The objects of a cycle, each once: each is ordered before the next one, and the last before the first.
 ///
-/// They are the first `len` of `objects`.
+/// In the answer of `add` the first is before the second by the order that was refused, and each other one by an order
+/// that is held. The objects are the first `len` of `objects`; what stands there from `len` on means nothing.
 #[derive(Debug, Drop)]
 pub struct Cycle {
     pub len: u32,
@@ -32,7 +33,7 @@ impl Cycle {
 
 /// All objects of a graph, first the one that comes first.
 ///
-/// They are the first `len` of `objects`.
+/// They are the first `len` of `objects`; what stands there from `len` on means nothing.
 #[derive(Debug, Drop)]
 pub struct Order {
     pub len: u32,

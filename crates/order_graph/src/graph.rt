@@ -4,21 +4,20 @@ ghost use Rattle.order_graph.specs.Sets.{AreNoted, AreFormer};
 
 use crate::answers::{Cycle, Order};
 use crate::leading::cycle_closed_by;
-use crate::placing::{noted, order_of};
-use crate::sets::with;
+use crate::placing::{before_with, order_of};
+use crate::sets::{Objects, with};
 use std::marker::Model;
 
 /// Orders held among 1 to 16 objects, at most 256 of them.
-///
-/// Beside the list of orders it keeps for each object the set of those that are ordered before it, as 16 bits; and for
-/// each order, what its second object's set was before that order was held.
 #[derive(Drop)]
 pub struct OrderGraph {
     n: u32,
     len: usize,
     held: [(u32, u32); 256],
-    before: [u16; 16],
-    former: [u16; 256],
+    /// For each object the set of those that are ordered before it.
+    before: [Objects; 16],
+    /// For each order what `before` had for its second object until that order was held.
+    former: [Objects; 256],
 }
 
 impl Model for OrderGraph {
@@ -50,27 +49,30 @@ impl OrderGraph {
 
     /// Holds that `i` comes before `j`, unless `j` leads to `i` already.
     ///
-    /// The search for a way takes at most 31 turns, and the walk along it 16 that look at 120 passed objects: fewer than 200
-    /// steps at 16 objects, however many orders are held.
+    /// Else the graph is as before, and `Err` has the cycle that the order would close: `i`, then `j`, then objects
+    /// over which held orders lead back to `i`, each object once.
+    ///
+    /// At 16 objects it takes at most 183 steps, however many orders are held: 31 turns of the search back from `i`, 16
+    /// turns along the way from `j` that look at 120 objects passed there, and 16 moves that put `i` first.
     pub fn add(&mut self, i: u32, j: u32) -> Result<(), Cycle>
         requires first { i < self.old.objects }
         requires second { j < self.old.objects }
         requires apart { i ≢ j }
         requires room { length self.old.held < 256 }
         ensures held { OnOk result (self.new ≡ record self.old { held = self.old.held ++ (i, j) ∷ [] }) }
+        ensures refused { IsErr result ↔ Leads self.old.held j i }
 
         // Of several cycles any one may be answered.
-        ensures refused { IsErr result ↔ Leads self.old.held j i }
         ensures cycle { IfErr result (ClosesCycle self.old.held i j) }
         ensures unchanged { OnErr result (self.new ≡ self.old) }
     {
         if let Some(cycle) = cycle_closed_by(&self.before, i, j) {
             return Err(cycle);
         }
-        let earlier = self.before[j as usize];
+        let former = self.before[j as usize];
         self.held[self.len] = (i, j);
-        self.former[self.len] = earlier;
-        self.before[j as usize] = with(earlier, i);
+        self.former[self.len] = former;
+        self.before[j as usize] = with(former, i);
         self.len += 1;
         Ok(())
     }
@@ -87,8 +89,9 @@ impl OrderGraph {
 
     /// Puts all objects in an order that keeps the held orders and the forced ones, or finds a cycle of these.
     ///
-    /// Reads the forced orders once. Besides, it takes fewer than 210 steps at 16 objects, however many orders are held: 136
-    /// looks for objects that can be placed, and fewer of these the longer a cycle is that has to be walked.
+    /// It takes one step for each forced order, and at 16 objects at most 208 besides, however many orders are held. An
+    /// order takes at most 136 looks for an object that can be placed. A cycle among L objects that are left takes at
+    /// most 3 L steps more than these 136, and then 24 moves that put its objects in turn.
     pub fn complete(&self, forced: &[(u32, u32)]) -> Result<Order, Cycle>
         requires { AreAmong self.now.objects forced.now }
         ensures order { IfOk result (IsOrder self.now.objects (self.now.held ++ forced.now)) }
@@ -98,11 +101,11 @@ impl OrderGraph {
         ensures order_exactly { IsOk result ↔ HasOrder self.now.objects (self.now.held ++ forced.now) }
         ensures cycle_exactly { IsErr result ↔ HasCycle (self.now.held ++ forced.now) }
 
-        // The held orders have no cycle of their own.
+        // The held orders have no cycle of their own: where there is a cycle, it takes a forced order.
         ensures acyclic { HasCycle self.now.held → ⊥ }
         ensures whole { IfOk result (λ order. length order ≡ self.now.objects) }
     {
-        let before = noted(&self.before, forced);
+        let before = before_with(&self.before, forced);
         order_of(self.n, &before)
     }
 }

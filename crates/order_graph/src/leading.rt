@@ -4,13 +4,13 @@ ghost use Rattle.order_graph.specs.Sets.{AreNoted};
 ghost use Rattle.order_graph.specs.Walks.{IsKnown, AllKnown, LeadsOn};
 
 use crate::answers::Cycle;
-use crate::sets::{apart, least, with, without};
-use crate::way::follow;
+use crate::sets::{Objects, any_of, apart, with, without};
+use crate::walk::{Trail, follow};
 
 /// For each object that leads to the goal the next one on a way there.
 ///
 /// Each object comes into `todo` once and leaves it once: at most 31 turns.
-fn next_towards(before: &[u16; 16], goal: u32) -> [Option<u32>; 16]
+fn next_towards(before: &[Objects; 16], goal: u32) -> [Option<u32>; 16]
     requires { goal < 16 }
     ensures leads { LeadsOn before.now goal result }
     ensures all { AllKnown before.now result goal }
@@ -18,8 +18,8 @@ fn next_towards(before: &[u16; 16], goal: u32) -> [Option<u32>; 16]
     let mut next = [None; 16];
     let mut known = with(0, goal);
     let mut todo = known;
-    while let Some(b) = least(todo) {
-        match least(apart(before[b as usize], known)) {
+    while let Some(b) = any_of(todo) {
+        match any_of(apart(before[b as usize], known)) {
             Some(a) => {
                 next[a as usize] = Some(b);
                 known = with(known, a);
@@ -32,7 +32,7 @@ fn next_towards(before: &[u16; 16], goal: u32) -> [Option<u32>; 16]
 }
 
 /// The cycle that an order of `i` before `j` would close, where the orders lead from `j` to `i`.
-pub fn cycle_closed_by(before: &[u16; 16], i: u32, j: u32) -> Option<Cycle>
+pub fn cycle_closed_by(before: &[Objects; 16], i: u32, j: u32) -> Option<Cycle>
     requires i { i < 16 }
     requires j { j < 16 }
     requires apart { i ≢ j }
@@ -44,7 +44,7 @@ pub fn cycle_closed_by(before: &[u16; 16], i: u32, j: u32) -> Option<Cycle>
         return None;
     }
     match follow(&next, j) {
-        Ok(way) => Some(way.into_cycle_from_last()),
-        Err(_) => unreachable!("no next object leads round"),
+        Trail::End(way) => Some(way.into_cycle_from_last()),
+        Trail::Round(_) => unreachable!("no next object leads round"),
     }
 }

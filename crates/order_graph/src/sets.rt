@@ -1,10 +1,13 @@
-//! Sets of objects below 16: bit k is 1 where object k is in the set.
+//! Sets of objects below 16, as numbers.
 
 ghost use Rattle.std.specs.Prelude.{◌≡◌, ◌≢◌, ◌↔◌, ℕ, ◌<◌, ◌≤◌, IsTrue, MatchOption};
 ghost use Rattle.order_graph.specs.Sets.{Has};
 
+/// A set of objects below 16: bit k is 1 where object k is in it.
+pub type Objects = u16;
+
 /// The objects below `n`.
-pub fn below(n: u32) -> u16
+pub fn below(n: u32) -> Objects
     requires some { 1 ≤ n }
     requires few { n ≤ 16 }
     ensures { (k : ℕ) → Has result k ↔ (k < n) }
@@ -12,7 +15,7 @@ pub fn below(n: u32) -> u16
     u16::MAX >> (16 - n)
 }
 
-pub fn with(set: u16, k: u32) -> u16
+pub fn with(set: Objects, k: u32) -> Objects
     requires { k < 16 }
     ensures same { Has result k }
     ensures others { (a : ℕ) → a ≢ k → Has result a ↔ Has set a }
@@ -21,7 +24,7 @@ pub fn with(set: u16, k: u32) -> u16
     set | (1 << k)
 }
 
-pub fn without(set: u16, k: u32) -> u16
+pub fn without(set: Objects, k: u32) -> Objects
     requires { k < 16 }
     ensures same { Has result k → ⊥ }
     ensures others { (a : ℕ) → a ≢ k → Has result a ↔ Has set a }
@@ -31,21 +34,21 @@ pub fn without(set: u16, k: u32) -> u16
 }
 
 /// What is in both sets.
-pub fn shared(set: u16, other: u16) -> u16
+pub fn shared(set: Objects, other: Objects) -> Objects
     ensures { (k : ℕ) → Has result k ↔ (Has set k × Has other k) }
 {
     set & other
 }
 
 /// What is in the first set and not in the second.
-pub fn apart(set: u16, other: u16) -> u16
+pub fn apart(set: Objects, other: Objects) -> Objects
     ensures { (k : ℕ) → Has result k ↔ (Has set k × (Has other k → ⊥)) }
 {
     set & !other
 }
 
-/// The least object of the set.
-pub fn least(set: u16) -> Option<u32>
+/// An object of the set, if it has one.
+pub fn any_of(set: Objects) -> Option<u32>
     ensures { MatchOption result ((k : ℕ) → Has set k → ⊥) (λ k. (k < 16) × Has set k) }
 {
     if set == 0 {

@@ -1,6 +1,6 @@
-//! Adds orders to the graphs of 16 objects that cost most, and completes them, 1,000,000 times each. It prints what came of it,
-//! and on the error stream the nanoseconds of a call; `bench/orders_of_16_objects` runs it. Nothing is promised here but that
-//! the calls may be made.
+//! Adds orders to the graphs of 16 objects that cost most, and completes them, 1,000,000 times each. It prints what
+//! came of it, and on the error stream the nanoseconds of a call; `bench/orders_of_16_objects` runs it. Nothing is
+//! promised here but that the calls may be made.
 #![tactic(auto)]
 
 ghost use Rattle.std.specs.Prelude.{◌≡◌, ◌≢◌, ◌↔◌, ◌<◌, length, IsTrue, IfSome};
@@ -32,7 +32,8 @@ fn graph_of(orders: &[(u32, u32)]) -> Option<OrderGraph>
     Some(graph)
 }
 
-/// The objects of the cycles that the order of `i` before `j` closes, one call after the other; an order that is held is undone.
+/// The objects of the cycles that the order of `i` before `j` closes, one call after the other; an order that is held
+/// is undone.
 fn added(graph: &mut OrderGraph, i: u32, j: u32) -> u64
     requires objects { graph.old.objects ≡ 16 }
     requires room { length graph.old.held < 256 }

@@ -1,6 +1,6 @@
-//! Slices a mesh of 200,000 scattered facets into 200 bands, and prints its bands and zones. With the word `tall` each facet spans
-//! 20 bands, else at most two. `bench/slices_of_tall_facets` and `bench/slices_of_small_facets` time it. Nothing is promised here
-//! but that `object` may be called.
+//! Slices a mesh of scattered facets into 200 bands, and prints its bands and zones: 200,000 facets that each span 20 bands with
+//! the word `tall`, 200,000 that each lie in one or two with the word `small`, and else 2,000 of these. `bench/slices_of_200000_facets`
+//! times the first two. Nothing is promised here but that `object` may be called.
 #![tactic(auto)]
 
 ghost use Rattle.std.specs.Prelude.{◌≡◌, ◌≤◌, ◌<◌, IfOk, All, length, unsigned_abs};
@@ -53,14 +53,15 @@ fn facet(state: u32, rise: u32) -> Facet
     }
 }
 
-fn facets(alloc: Global, rise: u32) -> Result<Vec<Facet>, AllocError>
-    requires { rise < 1_000_000 }
+fn facets(alloc: Global, count: u32, rise: u32) -> Result<Vec<Facet>, AllocError>
+    requires count { count ≤ 200_000 }
+    requires rise { rise < 1_000_000 }
     ensures near { IfOk result (λ facets. All IsNearFacet facets.items) }
     ensures few { IfOk result (λ facets. length facets.items ≤ 200_000) }
 {
     let mut facets = Vec::new(alloc);
     let mut state = 12_345;
-    for _ in 0..200_000 {
+    for _ in 0..count {
         state = next(state);
         facets.push(facet(state, rise))?;
     }
@@ -89,11 +90,14 @@ fn printer(alloc: Global) -> Result<Printer, AllocError> {
 }
 
 // The numbers of bands and zones of the mesh.
-fn sliced(alloc: Global, rise: u32) -> Option<(u32, usize)>
-    requires { rise < 1_000_000 }
+fn sliced(alloc: Global, count: u32, rise: u32) -> Option<(u32, usize)>
+    requires count { count ≤ 200_000 }
+    requires rise { rise < 1_000_000 }
 {
     let printer = printer(alloc).ok()?;
-    let facets = facets(alloc, rise).ok()?;
+    let Ok(facets) = facets(alloc, count, rise) else {
+        return None;
+    };
     let mesh = Mesh {
         facets: Items::from_vec(facets),
         dropped: 0,
@@ -102,12 +106,15 @@ fn sliced(alloc: Global, rise: u32) -> Option<(u32, usize)>
     Some((object.bands, object.zones.len()))
 }
 
-fn rise_of(word: Option<String>) -> u32
-    ensures { result < 1_000_000 }
+// The number of facets, and how far each rises.
+fn sizes_of(word: Option<String>) -> (u32, u32)
+    ensures count { result.0 ≤ 200_000 }
+    ensures rise { result.1 < 1_000_000 }
 {
     match word {
-        Some(word) if word.as_str() == "tall" => 195_000,
-        _ => 5_000,
+        Some(word) if word.as_str() == "tall" => (200_000, 195_000),
+        Some(word) if word.as_str() == "small" => (200_000, 5_000),
+        _ => (2_000, 5_000),
     }
 }
 
@@ -116,7 +123,8 @@ fn main(rt: HostRuntime) -> ExitCode {
     let Ok(mut args) = env::args(&rt) else {
         return ExitCode::from(2);
     };
-    let Some((bands, zones)) = sliced(alloc, rise_of(args.nth(1))) else {
+    let (count, rise) = sizes_of(args.nth(1));
+    let Some((bands, zones)) = sliced(alloc, count, rise) else {
         return ExitCode::from(9);
     };
     match println!(rt; "{bands} bands, {zones} zones") {

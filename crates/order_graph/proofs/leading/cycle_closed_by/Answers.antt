@@ -18,9 +18,9 @@ follow-requires-clause-next c a b is =
     omega (arith, long, within)
 
 pub unreachable-requires : goal.unreachable-requires
-unreachable-requires c = no_ring c.args.before.now c.args.i c.next_towards-next.result c.next_towards-next.ensures.leads _ c.in-Err.ensures
+unreachable-requires c = no_ring c.args.before.now c.args.i c.next_towards-next.result c.next_towards-next.ensures.leads _ c.in-Round.ensures
 
 pub returns : goal.returns
 returns c orders noted =
-    let turned = closes orders c.args.before.now c.args.i c.next_towards-next.result c.args.j c.in-Ok.way noted c.next_towards-next.ensures.leads (λ _. c.if-is_none.ensures) (λ same. c.requires.apart (sym same)) c.in-Ok.ensures in
+    let turned = closes orders c.args.before.now c.args.i c.next_towards-next.result c.args.j c.in-End.way noted c.next_towards-next.ensures.leads (λ _. c.if-is_none.ensures) (λ same. c.requires.apart (sym same)) c.in-End.ensures in
     subst (ClosesCycle orders c.args.i c.args.j) (sym c.into_cycle_from_last.ensures) turned

@@ -10,14 +10,14 @@ order_of-requires-clause-among c =
     let held = take g.len g.held in
     let objects : g.n ≡ c.args.self.now.objects = ap (λ t. t.objects) c.self.view_is in
     let forced = subst (λ n. AreAmong n c.args.forced.now) (sym objects) c.requires in
-    before_among g.n (held ++ c.args.forced.now) c.noted-before.result (all_among g.n held c.args.forced.now c.self.invariant.1.among forced) (c.noted-before.ensures held c.self.invariant.2)
+    before_among g.n (held ++ c.args.forced.now) c.before_with-before.result (all_among g.n held c.args.forced.now c.self.invariant.1.among forced) (c.before_with-before.ensures held c.self.invariant.2)
 
 pub returns-clause-order : goal.returns-clause-order
 returns-clause-order c =
     let g = c.self.inside in
     let held = take g.len g.held in
     let orders = held ++ c.args.forced.now in
-    let answer = c.order_of.ensures orders (c.noted-before.ensures held c.self.invariant.2) in
+    let answer = c.order_of.ensures orders (c.before_with-before.ensures held c.self.invariant.2) in
     rw (← c.self.view_is) (if_ok c.order_of.result (IsOrder g.n orders) (IsSimpleCycle orders) answer)
 
 pub returns-clause-cycle : goal.returns-clause-cycle
@@ -25,7 +25,7 @@ returns-clause-cycle c =
     let g = c.self.inside in
     let held = take g.len g.held in
     let orders = held ++ c.args.forced.now in
-    let answer = c.order_of.ensures orders (c.noted-before.ensures held c.self.invariant.2) in
+    let answer = c.order_of.ensures orders (c.before_with-before.ensures held c.self.invariant.2) in
     rw (← c.self.view_is) (if_err c.order_of.result (IsOrder g.n orders) (IsSimpleCycle orders) answer)
 
 pub returns-clause-order_exactly : goal.returns-clause-order_exactly
@@ -33,7 +33,7 @@ returns-clause-order_exactly c =
     let g = c.self.inside in
     let held = take g.len g.held in
     let orders = held ++ c.args.forced.now in
-    let answer = c.order_of.ensures orders (c.noted-before.ensures held c.self.invariant.2) in
+    let answer = c.order_of.ensures orders (c.before_with-before.ensures held c.self.invariant.2) in
     rw (← c.self.view_is) (order_exactly g.n orders c.order_of.result answer)
 
 pub returns-clause-cycle_exactly : goal.returns-clause-cycle_exactly
@@ -41,7 +41,7 @@ returns-clause-cycle_exactly c =
     let g = c.self.inside in
     let held = take g.len g.held in
     let orders = held ++ c.args.forced.now in
-    let answer = c.order_of.ensures orders (c.noted-before.ensures held c.self.invariant.2) in
+    let answer = c.order_of.ensures orders (c.before_with-before.ensures held c.self.invariant.2) in
     rw (← c.self.view_is) (cycle_exactly g.n orders c.order_of.result answer)
 
 pub returns-clause-whole : goal.returns-clause-whole
@@ -49,5 +49,5 @@ returns-clause-whole c =
     let g = c.self.inside in
     let held = take g.len g.held in
     let orders = held ++ c.args.forced.now in
-    let answer = c.order_of.ensures orders (c.noted-before.ensures held c.self.invariant.2) in
+    let answer = c.order_of.ensures orders (c.before_with-before.ensures held c.self.invariant.2) in
     rw (← c.self.view_is) (order_whole g.n orders c.order_of.result answer)

@@ -1,0 +1,6 @@
+use Rattle.std.proofs.Common.{arith}
+use Rattle.integer_laws.specs.Steps.{steps}
+use Rattle.mesh_checks.proofs.volume.tetrahedron_six_volume.Goals as goal
+
+pub returns-clause-value : goal.returns-clause-value
+returns-clause-value c = grind (arith, steps)

@@ -1,0 +1,11 @@
+use Rattle.model_examples.proofs.WalkLaws.{wide_form_is, wide_at_3, walk_wide}
+use Rattle.model_examples.proofs.walks.a_walk_ends_before_a_wide_row.Goals as goal
+
+pub returns-clause-form : goal.returns-clause-form
+returns-clause-form c = wide_form_is
+
+pub returns-clause-wide : goal.returns-clause-wide
+returns-clause-wide c = wide_at_3
+
+pub returns-clause-walk : goal.returns-clause-walk
+returns-clause-walk c = walk_wide

@@ -1,0 +1,27 @@
+-- A tree that refutes extent 45 for two cubes, and one that doesn't.
+--
+--   four_sides       the sides of two cubes with the nozzle, by angle; six_sides those of two wedges
+--   bound r m s n    the leaf that takes row r m times and row s n times
+--   tree first       the tree whose first bound is this leaf: an order of the two cubes, and for each order a leaf on each side
+use Rattle.std.specs.Prelude.{ℕ, List, [], ◌∷◌}
+use Rattle.model_examples.specs.Cubes.{first_contact, second_contact, east, northeast, north, west, southwest, south}
+use Rattle.model_examples.specs.Rows.{times}
+use Rattle.seq_model.specs.declared.tree.Dir.{Dir}
+use Rattle.seq_model.specs.declared.tree.Node.{Node}
+use Rattle.seq_model.specs.declared.tree.Node.TheVariants as Nodes
+
+abbrev pub four_sides : List Dir
+four_sides = east ∷ north ∷ west ∷ south ∷ []
+
+abbrev pub six_sides : List Dir
+six_sides = east ∷ northeast ∷ north ∷ west ∷ southwest ∷ south ∷ []
+
+abbrev pub bound : ℕ → ℕ → ℕ → ℕ → Node
+bound r m s n = Nodes.Bound (times r m s n)
+
+abbrev pub tree : Node → List Node
+tree first =
+    Nodes.Order 0 1
+    ∷ Nodes.Side first_contact 4 ∷ first ∷ bound 3 1 4 1 ∷ bound 0 1 4 1 ∷ bound 1 1 4 1
+    ∷ Nodes.Side second_contact 4 ∷ bound 0 1 4 1 ∷ bound 1 1 4 1 ∷ bound 2 1 4 1 ∷ bound 3 1 4 1
+    ∷ []

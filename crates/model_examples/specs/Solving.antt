@@ -1,0 +1,23 @@
+-- Rows that are solved by walks of bases.
+--
+--   FormIs vars rows basis d lines   the form of the basis has this denominator and these lines
+--   one_row                          -1 + 2 u >= 0
+--   big, wide_rows                   2^61, and the rows -1 + 2^61 u >= 0 and -2 + u + 3 v >= 0
+use Rattle.std.specs.Prelude.{◌≡◌, ℕ, ◌^◌, List, [], ◌∷◌, ℤ, pos, negsuc}
+use Rattle.model_examples.specs.Rows.{row}
+use Rattle.row_walks.specs.Dictionaries.{Form}
+use Rattle.seq_model.specs.Systems.{Row}
+
+pub record FormIs (vars : ℕ) (rows : List Row) (basis : List ℕ) (d : ℤ) (lines : List (List ℤ)) : Type 0 where
+  pub form : Form vars rows basis
+  pub d_is : form.d ≡ d
+  pub lines_are : form.lines ≡ lines
+
+abbrev pub one_row : List Row
+one_row = row (negsuc 0) (pos 2 ∷ []) ∷ []
+
+abbrev pub big : ℤ
+big = pos (2 ^ 61)
+
+abbrev pub wide_rows : List Row
+wide_rows = row (negsuc 0) (big ∷ pos 0 ∷ []) ∷ row (negsuc 1) (pos 1 ∷ pos 3 ∷ []) ∷ []

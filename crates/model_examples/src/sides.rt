@@ -1,0 +1,20 @@
+//! The sides of contacts.
+
+ghost use Rattle.std.specs.Prelude.{◌≡◌, [], ◌∷◌, pos, map};
+ghost use Rattle.seq_model.specs.Contacts.{points_of};
+ghost use Rattle.seq_model.specs.Sides.{AreSides, greatest_along};
+ghost use Rattle.model_examples.specs.Certificates.{four_sides, six_sides};
+ghost use Rattle.model_examples.specs.Cubes.{first_contact};
+ghost use Rattle.model_examples.specs.Jobs.{two_cubes, two_wedges};
+
+/// The sides of two cubes with the nozzle are the four directions along the axes, at distance 24.
+pub fn sides_of_two_cubes()
+    ensures sides { AreSides (points_of two_cubes first_contact) four_sides }
+    ensures greatest { map (λ dir. greatest_along dir (points_of two_cubes first_contact)) four_sides ≡ pos 24 ∷ pos 24 ∷ pos 24 ∷ pos 24 ∷ [] }
+{}
+
+/// Those of two wedges are just six: (1, 0), (1, 1), (0, 1), (-1, 0), (-1, -1) and (0, -1).
+pub fn sides_of_two_wedges()
+    ensures sides { AreSides (points_of two_wedges first_contact) six_sides }
+    ensures greatest { map (λ dir. greatest_along dir (points_of two_wedges first_contact)) six_sides ≡ pos 24 ∷ pos 28 ∷ pos 24 ∷ pos 24 ∷ pos 28 ∷ pos 24 ∷ [] }
+{}

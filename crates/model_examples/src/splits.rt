@@ -1,0 +1,27 @@
+//! Places, plans, and what a search may do first.
+
+ghost use Rattle.std.specs.Prelude.{◌≡◌, ℕ, [], ◌∷◌, pos};
+ghost use Rattle.seq_model.specs.Budgets.{IsMostSides};
+ghost use Rattle.seq_model.specs.Jobs.{scene_of_job};
+ghost use Rattle.seq_model.specs.Scenes.{Valid};
+ghost use Rattle.seq_model.specs.Splits.{Earned, SpentTree};
+ghost use Rattle.seq_model.specs.Systems.{place_of};
+ghost use Rattle.seq_model.specs.declared.tree.Node.TheVariants as Nodes;
+ghost use Rattle.model_examples.specs.Cubes.{at};
+ghost use Rattle.model_examples.specs.Jobs.{two_cubes};
+ghost use Rattle.model_examples.specs.Plans.{beside_each_other};
+
+/// Extent 46 has room for two cubes beside each other: with u = (0, 0) and (24, 0) they stand at (28, 28) and (52, 28), and that is a
+/// valid plan.
+pub fn two_cubes_fit_46()
+    ensures first { place_of two_cubes 46 (pos 1) (pos 0 ∷ pos 0 ∷ pos 24 ∷ pos 0 ∷ []) 0 ≡ at (pos 28) (pos 28) }
+    ensures second { place_of two_cubes 46 (pos 1) (pos 0 ∷ pos 0 ∷ pos 24 ∷ pos 0 ∷ []) 1 ≡ at (pos 52) (pos 28) }
+    ensures valid { Valid (scene_of_job two_cubes) 46 beside_each_other }
+{}
+
+/// A search of two cubes may begin with their order, since where both stand in one place they collide both ways. With a budget of one
+/// node it has spent it at the pending root, whatever the greatest number of sides.
+pub fn one_node_is_soon_spent()
+    ensures earned { Earned two_cubes 100 [] (Nodes.Order 0 1) }
+    ensures spent { (s : ℕ) → IsMostSides two_cubes s → SpentTree two_cubes 100 1 (Nodes.Pending ∷ []) }
+{}

@@ -1,0 +1,22 @@
+//! Walks from basis to basis.
+
+ghost use Rattle.std.specs.Prelude.{[], ◌∷◌, pos, negsuc, ◌-ℤ◌, ◌*ℤ◌};
+ghost use Rattle.row_walks.specs.Dictionaries.{WideAt};
+ghost use Rattle.row_walks.specs.Walks.{Walk, WalkWide};
+ghost use Rattle.model_examples.specs.Solving.{FormIs, one_row, big, wide_rows};
+
+/// `-1 + 2 u >= 0` is met at u = 1/2. Variable 0 is u and variable 1 the slack. First the slack is -1 + 2 u; it leaves, u enters, and
+/// 2 u is 1 plus the slack.
+pub fn half_meets_one_row()
+    ensures first { FormIs 1 one_row (1 ∷ []) (pos 1) ((negsuc 0 ∷ pos 2 ∷ []) ∷ []) }
+    ensures last { FormIs 1 one_row (0 ∷ []) (pos 2) ((pos 1 ∷ pos 1 ∷ []) ∷ []) }
+    ensures walk { Walk 1 one_row (1 ∷ []) ((1 ∷ []) ∷ (0 ∷ []) ∷ []) }
+{}
+
+/// Of the rows `-1 + 2^61 u >= 0` and `-2 + u + 3 v >= 0` the walk from the slacks 2 and 3 would go on to the basis 0, 3. Over 2^61 slack
+/// 3 has there the constant 1 - 2^62 and the entries 3 * 2^61 of v and 1 of slack 2, so that it is wide, and the walk ends before it.
+pub fn a_walk_ends_before_a_wide_row()
+    ensures form { FormIs 2 wide_rows (0 ∷ 3 ∷ []) big ((pos 1 ∷ pos 0 ∷ pos 1 ∷ []) ∷ ((pos 1 -ℤ pos 2 *ℤ big) ∷ (pos 3 *ℤ big) ∷ pos 1 ∷ []) ∷ []) }
+    ensures wide { WideAt 2 wide_rows (0 ∷ 3 ∷ []) 3 }
+    ensures walk { WalkWide 2 wide_rows (0 ∷ 3 ∷ []) 3 }
+{}

@@ -1,5 +1,0 @@
-use Rattle.model_laws.specs.Farkas.{no_point}
-use Rattle.model_laws.proofs.no_point_meets_a_contradiction.Goals as goal
-
-pub returns : goal.returns
-returns c = no_point

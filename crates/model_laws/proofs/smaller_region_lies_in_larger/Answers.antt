@@ -1,5 +1,0 @@
-use Rattle.model_laws.specs.Nested.{nested}
-use Rattle.model_laws.proofs.smaller_region_lies_in_larger.Goals as goal
-
-pub returns : goal.returns
-returns c = nested

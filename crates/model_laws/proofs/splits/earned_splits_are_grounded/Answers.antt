@@ -1,0 +1,5 @@
+use Rattle.model_laws.specs.Grounds.{earned_is_grounded}
+use Rattle.model_laws.proofs.splits.earned_splits_are_grounded.Goals as goal
+
+pub returns : goal.returns
+returns c = earned_is_grounded

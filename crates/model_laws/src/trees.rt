@@ -1,0 +1,39 @@
+//! Trees, by their roots.
+
+ghost use Rattle.std.specs.Prelude.{◌≡◌, ℕ, List, [], ◌∷◌, Contains, All, ◌↔◌};
+ghost use Rattle.seq_model.specs.Systems.{system, Contradiction};
+ghost use Rattle.seq_model.specs.Trees.{IsCycle, IsPath, AreChildren, IsSoundNode, IsClosed, IsTree, Refutes};
+ghost use Rattle.seq_model.specs.declared.job.Job.{Job};
+ghost use Rattle.seq_model.specs.declared.tree.Choice.{Choice};
+ghost use Rattle.seq_model.specs.declared.tree.Choice.TheVariants as Choices;
+ghost use Rattle.seq_model.specs.declared.tree.Contact.{Contact};
+ghost use Rattle.seq_model.specs.declared.tree.Mult.{Mult};
+ghost use Rattle.seq_model.specs.declared.tree.Node.{Node};
+ghost use Rattle.seq_model.specs.declared.tree.Node.TheVariants as Nodes;
+ghost use Rattle.model_laws.specs.Roots.{OrderRefutes, SideRefutes};
+
+/// When a tree refutes a path, by the kind of its root. A bound's multipliers contradict the path's system, and a cycle's objects
+/// run along orders of the path; neither has anything below it. An order's first child refutes the path with i before j, and its
+/// second one the path with j before i. A side's contact exists, its order is on the path, it has a child for each of its sides,
+/// and child number k refutes the path with side number k. What is pending refutes nothing.
+pub fn a_tree_refutes_by_its_root()
+    ensures bound { (job : Job) (e : ℕ) (path : List Choice) (mults : List Mult) (below : List Node)
+        → Refutes job e path (Nodes.Bound mults ∷ below) ↔ ((below ≡ []) × Contradiction (system job e path) mults) }
+    ensures cycle { (job : Job) (e : ℕ) (path : List Choice) (objects : List ℕ) (below : List Node)
+        → Refutes job e path (Nodes.Cycle objects ∷ below) ↔ ((below ≡ []) × IsCycle (λ a b. Contains path (Choices.Before a b)) objects) }
+    ensures order { (job : Job) (e : ℕ) (path : List Choice) (i j : ℕ) (below : List Node)
+        → Refutes job e path (Nodes.Order i j ∷ below) ↔ OrderRefutes job e path i j below }
+    ensures side { (job : Job) (e : ℕ) (path : List Choice) (contact : Contact) (children : ℕ) (below : List Node)
+        → Refutes job e path (Nodes.Side contact children ∷ below) ↔ SideRefutes job e path contact children below }
+    ensures pending { (job : Job) (e : ℕ) (path : List Choice) (below : List Node) → Refutes job e path (Nodes.Pending ∷ below) → ⊥ }
+    ensures none { (job : Job) (e : ℕ) (path : List Choice) → Refutes job e path [] → ⊥ }
+{}
+
+/// The children of a sound node at a path of the job stand at paths of the job, and so each node of a tree that refutes the empty path
+/// stands at one.
+pub fn nodes_stand_at_paths()
+    ensures children { (job : Job) (e : ℕ) (path : List Choice) (node : Node) (paths : List (List Choice))
+        → IsPath job path → IsSoundNode job e path node → AreChildren job path node paths → All (IsPath job) paths }
+    ensures all { (job : Job) (e : ℕ) (nodes : List Node)
+        → Refutes job e [] nodes → IsTree job (λ path node. (IsSoundNode job e path node × IsClosed node) × IsPath job path) [] nodes }
+{}
