@@ -4,10 +4,12 @@
 --   IsOutlineOf S C                C are the corners of the convex outline of the spots S
 --   HoldsBand b z                  band b is one of the bands of zone z
 --   LiesInOneZone S zones b        band b, of the spots S, lies in exactly one zone, and S has that zone's outline
---   AreZonesOf S bands zones       the zones are the longest runs of bands with equal outlines that aren't empty
+--   AreZonesOf S bands zones       the zones are the longest runs of bands with equal outlines that aren't empty; that they rise
+--                                  and end below the number of bands is in the object's soundness
 --   IsObjectOf name facets p o     o is the object of a mesh of this name, for the printer p
 --   CanBeSliced facets step        the mesh has a facet, and at most 200 bands
---   IsRefusedAs facets step e      e says why it can't be sliced
+--   IsTooTall facets step bands    it has a facet, and this many bands, more than 200
+--   IsRefusedAs facets step e      e says why it isn't sliced
 use Rattle.std.specs.Prelude.{ℕ, ℤ, ◌≡◌, ◌≢◌, ◌<◌, ◌≤◌, ◌+◌, ◌↔◌, List, [], ◌∷◌, All, AllPairs, Contains}
 use Rattle.seq_model.specs.declared.job.Object.{Object}
 use Rattle.seq_model.specs.declared.job.Zone.{Zone}
@@ -49,7 +51,8 @@ pub record LiesInOneZone (S : List Spot) (zones : List Zone) (b : ℕ) : Type 0 
   pub only : All (λ z. HoldsBand b z → z ≡ zone) zones
 
 -- S gives the spots of each band. A band with spots lies in exactly one zone, a band without lies in none, and of zones that
--- follow one another without a gap no two have the same outline
+-- follow one another without a gap no two have the same outline. It doesn't say that zones rise, nor that they end below the number
+-- of bands: with these words this is `zones` of the object's soundness
 pub record AreZonesOf (S : ℕ → List Spot) (bands : ℕ) (zones : List Zone) : Type 0 where
   pub with_spots : (b : ℕ) → b < bands → S b ≢ [] → LiesInOneZone (S b) zones b
   pub without_spots : (b : ℕ) → b < bands → S b ≡ [] → All (λ z. HoldsBand b z → ⊥) zones
@@ -62,6 +65,7 @@ pub record IsObjectOf (name : List ℕ) (facets : List Facet) (printer : Printer
   pub height : o.height ≡ height_of facets
   pub bands : o.bands ≡ band_count facets printer.step
   pub zones : AreZonesOf (spots_in printer facets) o.bands o.zones
+  -- a scene has parts, but Spans doesn't look at them: so this holds whatever parts are listed
   pub spans : (listed : List Part) → Spans (scene_of_files (description_of printer listed) (facets ∷ [])) 0 o.low o.high
   pub sound : IsSoundObject o
 
@@ -75,8 +79,8 @@ pub record IsTooTall (facets : List Facet) (step : ℤ) (bands : ℕ) : Type 0 w
   pub count : bands ≡ band_count facets step
   pub many : 200 < bands
 
--- why a mesh can't be sliced: it has no facet, or more than 200 bands, and then their number. Want of memory has no cause here
+-- why a mesh isn't sliced: it has no facet; or more than 200 bands, and then their number; or it could be, but for want of memory
 abbrev pub IsRefusedAs : List Facet → ℤ → Slice → Type 0
 IsRefusedAs facets step Flat = facets ≡ []
 IsRefusedAs facets step (TooTall bands) = IsTooTall facets step bands
-IsRefusedAs facets step NoMemory = Unit {0}
+IsRefusedAs facets step NoMemory = CanBeSliced facets step

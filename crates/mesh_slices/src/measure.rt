@@ -8,6 +8,7 @@ ghost use Rattle.seq_model.specs.declared.printer.Part.{Part};
 
 use crate::extremes::extremes_of;
 use crate::grains::{ceil_of, spot_above, spot_below};
+use crate::points::rise_of;
 use seq_model::{Facet, Point3, Printer, Spot};
 
 /// What a mesh measures: the least and the greatest spot coordinates over all bands, in grains; its least z and its height,
@@ -43,15 +44,6 @@ fn high_spot(corner: &Point3, printer: &Printer) -> Spot
     Spot { x, y }
 }
 
-fn height_between(low: i64, high: i64) -> i64
-    requires low { unsigned_abs low ≤ 10_000_000 }
-    requires high { unsigned_abs high ≤ 10_000_000 }
-    ensures value { result ≡ high -ℤ low }
-    ensures size { unsigned_abs result ≤ 20_000_000 }
-{
-    high - low
-}
-
 // The number of bands of a height.
 fn bands_of(height: i64, step: i64) -> u64
     requires height { unsigned_abs height ≤ 20_000_000 }
@@ -74,7 +66,7 @@ pub fn measure_of(printer: &Printer, facets: &[Facet]) -> Measure
     let found = extremes_of(facets);
     let low = low_spot(&found.low, printer);
     let high = high_spot(&found.high, printer);
-    let height = height_between(found.low.z, found.high.z);
+    let height = rise_of(found.low.z, found.high.z);
     let bands = bands_of(height, printer.step);
     Measure {
         low,

@@ -17,13 +17,16 @@ fn few_bands(bands: u64) -> u32
     bands as u32
 }
 
-fn are_none(facets: &[Facet]) -> bool
+fn has_no_facet(facets: &[Facet]) -> bool
     ensures { IsTrue result ↔ (facets.now ≡ []) }
 {
     facets.is_empty()
 }
 
 /// The object of a mesh: its height in µm, its bands, and their zones with corners in grains.
+///
+/// `Flat` comes exactly where the mesh has no facet, and `TooTall`, with the number of bands, exactly where it has one and more
+/// than 200 bands. Both come before any memory is asked for, so `NoMemory` speaks of a mesh that could be sliced.
 pub fn object(alloc: Global, name: &str, mesh: &Mesh, printer: &Printer) -> Result<Object, Slice>
     ensures object { IfOk result (IsObjectOf name.now mesh.now.facets printer.now) }
     ensures covers { IfOk result (ZonesCover printer.now mesh.now.facets) }
@@ -31,7 +34,7 @@ pub fn object(alloc: Global, name: &str, mesh: &Mesh, printer: &Printer) -> Resu
     ensures refused { IfErr result (IsRefusedAs mesh.now.facets printer.now.step) }
 {
     let facets = mesh.facets.as_slice();
-    if are_none(facets) {
+    if has_no_facet(facets) {
         return Err(Slice::Flat);
     }
     let measure = measure_of(printer, facets);

@@ -16,7 +16,7 @@ use seq_model::{Facet, Printer, Spot};
 use seq_num::NoMemory;
 use std::alloc::{AllocError, Global};
 
-// Half as many spots as are folded into their hull at first.
+// Spots are few, and aren't folded into their hull, while half of them are no more than this.
 const HALF: usize = 1_024;
 
 // The denominator of a coordinate in grains.
@@ -81,7 +81,8 @@ fn fold(alloc: Global, found: &mut Vec<Spot>) -> Result<(), NoMemory>
     Ok(())
 }
 
-// Folds spots that are twice as many as the last time, and answers how many they are then.
+// Folds the spots if they are 2,050 at least, and more than twice as many as were kept by the last fold. Answers how many are
+// kept by it, and without a fold `kept` as it was, for the next time.
 fn fold_if_full(alloc: Global, found: &mut Vec<Spot>, kept: usize) -> Result<usize, NoMemory>
     requires { All IsNear found.old.items }
     ensures stand { OnOk result (StandsFor found.old.items found.new.items) }

@@ -34,8 +34,8 @@ fn mean_of(a: i64, weight_a: i64, b: i64, weight_b: i64) -> i64
     part_of(a, weight_a) + part_of(b, weight_b)
 }
 
-// How far one height lies above another.
-fn rise_of(from: i64, to: i64) -> i64
+/// How far one height lies above another, in µm.
+pub fn rise_of(from: i64, to: i64) -> i64
     requires from { unsigned_abs from ≤ 10_000_000 }
     requires to { unsigned_abs to ≤ 10_000_000 }
     ensures value { result ≡ to -ℤ from }

@@ -9,6 +9,7 @@ pub enum Slice {
     Flat,
     /// It would have more than 200 bands: their number.
     TooTall(u64),
+    /// It could be sliced, but memory ran out.
     NoMemory,
 }
 

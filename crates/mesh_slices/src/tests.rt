@@ -7,56 +7,65 @@ use seq_model::{Facet, Mesh, Part, Point3, Printer, Spot};
 use std::alloc::{AllocError, Global};
 use std::test::Fail;
 
-// A prism over a base in centimetres, from one height to another, or a cone with its top above a place of its own.
+// A prism over a base in centimetres, counterclockwise, from one height to another; or a cone with its top at the second height,
+// above a place of its own.
 type Solid = (&'static [(u8, u8)], u8, u8, Option<(u8, u8)>);
 
 // The first and the last band of a zone, and its corners in grains.
 type Run = (u32, u32, &'static [(i64, i64)]);
 
+// The least and the greatest spot coordinates.
+type Span = ((i64, i64), (i64, i64));
+
 const SQUARE: &[(u8, u8)] = &[(0, 0), (2, 0), (2, 2), (0, 2)];
 
 const WIDE: &[(i64, i64)] = &[(-1, -1), (21, -1), (21, 21), (-1, 21)];
 
-// Solids, and the number of bands, the least and the greatest spot coordinates, and the zones of their mesh. The printer has a
-// grain of 1 mm, a margin of 1 mm and bands of 10 mm.
-static SLICED: [(&[Solid], u32, (i64, i64), (i64, i64), &[Run]); 7] = [
+// Solids, and the number of facets of their mesh, its height in µm, the number of its bands, its span and its zones. The printer
+// has a grain of 1 mm, a margin of 1 mm and bands of 10 mm.
+static SLICED: [(&[Solid], usize, i64, u32, Span, &[Run]); 7] = [
     // a cube, and a taller one whose middle band holds no vertex
     (
         &[(SQUARE, 0, 2, None)],
+        12,
+        20_000,
         2,
-        (-1, -1),
-        (21, 21),
+        ((-1, -1), (21, 21)),
         &[(0, 1, WIDE)],
     ),
     (
         &[(SQUARE, 0, 3, None)],
+        12,
+        30_000,
         3,
-        (-1, -1),
-        (21, 21),
+        ((-1, -1), (21, 21)),
         &[(0, 2, WIDE)],
     ),
     // a pyramid: the outline of its upper band is that of the crossings with the lower height
     (
         &[(SQUARE, 0, 2, Some((1, 1)))],
+        6,
+        20_000,
         2,
-        (-1, -1),
-        (21, 21),
+        ((-1, -1), (21, 21)),
         &[(0, 0, WIDE), (1, 1, &[(4, 4), (16, 4), (16, 16), (4, 16)])],
     ),
     // a wedge
     (
         &[(&[(0, 0), (2, 0), (0, 2)], 0, 2, None)],
+        8,
+        20_000,
         2,
-        (-1, -1),
-        (21, 21),
+        ((-1, -1), (21, 21)),
         &[(0, 1, &[(-1, -1), (21, -1), (21, 1), (1, 21), (-1, 21)])],
     ),
     // two cubes with an empty band between them
     (
         &[(SQUARE, 0, 2, None), (SQUARE, 5, 7, None)],
+        24,
+        70_000,
         7,
-        (-1, -1),
-        (21, 21),
+        ((-1, -1), (21, 21)),
         &[(0, 2, WIDE), (4, 6, WIDE)],
     ),
     // a cube beside a smaller one that stands on its height
@@ -65,9 +74,10 @@ static SLICED: [(&[Solid], u32, (i64, i64), (i64, i64), &[Run]); 7] = [
             (SQUARE, 0, 1, None),
             (&[(4, 4), (5, 4), (5, 5), (4, 5)], 1, 3, None),
         ],
+        24,
+        30_000,
         3,
-        (-1, -1),
-        (51, 51),
+        ((-1, -1), (51, 51)),
         &[
             (
                 0,
@@ -80,9 +90,10 @@ static SLICED: [(&[Solid], u32, (i64, i64), (i64, i64), &[Run]); 7] = [
     // the greatest number of bands
     (
         &[(SQUARE, 0, 200, None)],
+        12,
+        2_000_000,
         200,
-        (-1, -1),
-        (21, 21),
+        ((-1, -1), (21, 21)),
         &[(0, 199, WIDE)],
     ),
 ];
@@ -114,39 +125,78 @@ fn add(facets: &mut Vec<Facet>, a: Point3, b: Point3, c: Point3) -> Result<(), A
     Ok(())
 }
 
-// The facets of a base at a height.
+// The facets of a base at a height, seen from below.
 fn add_base(facets: &mut Vec<Facet>, base: &[(u8, u8)], z: u8) -> Result<(), AllocError>
     requires { All IsNearFacet facets.old.items }
     ensures { OnOk result (All IsNearFacet facets.new.items) }
 {
-    for (k, place) in base.iter().enumerate() {
-        let next = base.get(k + 1).unwrap_or(place);
-        add(facets, point(base[0], z), point(*next, z), point(*place, z))?;
+    let Some(first) = base.first() else {
+        return Ok(());
+    };
+    for (place, next) in base.iter().skip(1).zip(base.iter().skip(2)) {
+        add(facets, point(*first, z), point(*next, z), point(*place, z))?;
     }
     Ok(())
 }
 
-// The facets of the sides of a solid.
-fn add_sides(facets: &mut Vec<Facet>, solid: &Solid) -> Result<(), AllocError>
+// The facets of a base at a height, seen from above.
+fn add_cover(facets: &mut Vec<Facet>, base: &[(u8, u8)], z: u8) -> Result<(), AllocError>
+    requires { All IsNearFacet facets.old.items }
+    ensures { OnOk result (All IsNearFacet facets.new.items) }
+{
+    let Some(first) = base.first() else {
+        return Ok(());
+    };
+    for (place, next) in base.iter().skip(1).zip(base.iter().skip(2)) {
+        add(facets, point(*first, z), point(*place, z), point(*next, z))?;
+    }
+    Ok(())
+}
+
+// The facets of a prism, without its base.
+fn add_prism(facets: &mut Vec<Facet>, base: &[(u8, u8)], low: u8, high: u8) -> Result<(), AllocError>
+    requires { All IsNearFacet facets.old.items }
+    ensures { OnOk result (All IsNearFacet facets.new.items) }
+{
+    add_cover(facets, base, high)?;
+    for (k, place) in base.iter().enumerate() {
+        let next = base.get(k + 1).unwrap_or(&base[0]);
+        let beyond = point(*next, high);
+        add(facets, point(*place, low), point(*next, low), beyond)?;
+        add(facets, point(*place, low), beyond, point(*place, high))?;
+    }
+    Ok(())
+}
+
+// The facets of a cone, without its base.
+fn add_cone(facets: &mut Vec<Facet>, base: &[(u8, u8)], low: u8, top: Point3) -> Result<(), AllocError>
+    requires top { IsNear top }
+    requires facets { All IsNearFacet facets.old.items }
+    ensures { OnOk result (All IsNearFacet facets.new.items) }
+{
+    for (k, place) in base.iter().enumerate() {
+        let next = base.get(k + 1).unwrap_or(&base[0]);
+        add(facets, point(*place, low), point(*next, low), top)?;
+    }
+    Ok(())
+}
+
+fn add_solid(facets: &mut Vec<Facet>, solid: &Solid) -> Result<(), AllocError>
     requires { All IsNearFacet facets.old.items }
     ensures { OnOk result (All IsNearFacet facets.new.items) }
 {
     let (base, low, high, top) = *solid;
-    for (k, place) in base.iter().enumerate() {
-        let next = base.get(k + 1).unwrap_or(&base[0]);
-        let above = point(top.unwrap_or(*place), high);
-        let beyond = point(top.unwrap_or(*next), high);
-        add(facets, point(*place, low), point(*next, low), beyond)?;
-        add(facets, point(*place, low), beyond, above)?;
+    add_base(facets, base, low)?;
+    match top {
+        Some(top) => add_cone(facets, base, low, point(top, high)),
+        None => add_prism(facets, base, low, high),
     }
-    Ok(())
 }
 
 fn mesh_of(alloc: Global, solids: &[Solid]) -> Result<Option<Mesh>, AllocError> {
     let mut facets = Vec::new(alloc);
     for solid in solids {
-        add_base(&mut facets, solid.0, solid.1)?;
-        add_sides(&mut facets, solid)?;
+        add_solid(&mut facets, solid)?;
     }
     if facets.len() > 200_000 {
         return Ok(None);
@@ -188,12 +238,14 @@ fn spot(place: (i64, i64)) -> Spot {
 #[test]
 fn meshes_are_sliced(rt: HostRuntime) -> Result<(), Fail> {
     let printer = printer_of(rt.alloc())?;
-    for (solids, bands, low, high, runs) in &SLICED {
+    for (solids, facets, height, bands, (low, high), runs) in &SLICED {
         let mesh = mesh_of(rt.alloc(), solids)?.ok_or("too many facets")?;
+        assert_eq!(rt; mesh.facets.len(), *facets);
         let object = object(rt.alloc(), "solid", &mesh, &printer)
             .ok()
             .ok_or("refused")?;
         assert_eq!(rt; object.name.as_str(), "solid");
+        assert_eq!(rt; object.height, *height);
         assert_eq!(rt; object.bands, *bands);
         assert_eq!(rt; object.low, spot(*low));
         assert_eq!(rt; object.high, spot(*high));

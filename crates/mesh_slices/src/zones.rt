@@ -96,7 +96,7 @@ fn add_band(zones: &mut Vec<Zone>, corners: Vec<Spot>, band: u32) -> Result<(), 
 }
 
 // How far a band lies above the bottom.
-fn rise_of(step: i64, band: u32) -> i64
+fn lift_of(step: i64, band: u32) -> i64
     requires low { pos 1 ≤ℤ step }
     requires high { step ≤ℤ pos 100_000 }
     requires band { band < 200 }
@@ -115,7 +115,7 @@ fn slab_of(bottom: i64, step: i64, band: u32) -> Slab
     ensures low { result.low ≡ bottom +ℤ step *ℤ pos band }
     ensures high { result.high ≡ (bottom +ℤ step *ℤ pos band) +ℤ step }
 {
-    let low = bottom + rise_of(step, band);
+    let low = bottom + lift_of(step, band);
     Slab {
         low,
         high: low + step,

@@ -1,6 +1,7 @@
-//! Slices a mesh of scattered facets into 200 bands, and prints its bands and zones: 200,000 facets that each span 20 bands with
-//! the word `tall`, 200,000 that each lie in one or two with the word `small`, and else 2,000 of these. `bench/slices_of_200000_facets`
-//! times the first two. Nothing is promised here but that `object` may be called.
+//! Slices a mesh of scattered facets into 200 bands, and prints the numbers of its bands, zones and corners: 200,000 facets that
+//! each span 20 bands with the word `tall`, 200,000 that each lie in one or two with the word `small`, and else 3,000 that each
+//! span 20. `bench/slices_of_200000_facets` times the first two. With 3,000 most bands have more than 4,000 spots, so that spots
+//! are folded. Nothing is promised here but that `object` may be called.
 #![tactic(auto)]
 
 ghost use Rattle.std.specs.Prelude.{◌≡◌, ◌≤◌, ◌<◌, IfOk, All, length, unsigned_abs};
@@ -8,7 +9,7 @@ ghost use Rattle.seq_model.specs.Bounds.{IsNear, IsNearFacet};
 
 use mesh_slices::object;
 use owned_lists::{Items, Text};
-use seq_model::{Facet, Mesh, Part, Point3, Printer, Spot};
+use seq_model::{Facet, Mesh, Part, Point3, Printer, Spot, Zone};
 use std::alloc::{AllocError, Global};
 use std::env;
 use std::process::ExitCode;
@@ -89,8 +90,17 @@ fn printer(alloc: Global) -> Result<Printer, AllocError> {
     })
 }
 
-// The numbers of bands and zones of the mesh.
-fn sliced(alloc: Global, count: u32, rise: u32) -> Option<(u32, usize)>
+// How many corners the zones have together.
+fn corners_of(zones: &[Zone]) -> usize {
+    let mut count: usize = 0;
+    for zone in zones {
+        count = count.saturating_add(zone.corners.len());
+    }
+    count
+}
+
+// The numbers of bands, zones and corners of the mesh.
+fn sliced(alloc: Global, count: u32, rise: u32) -> Option<(u32, usize, usize)>
     requires count { count ≤ 200_000 }
     requires rise { rise < 1_000_000 }
 {
@@ -103,7 +113,8 @@ fn sliced(alloc: Global, count: u32, rise: u32) -> Option<(u32, usize)>
         dropped: 0,
     };
     let object = object(alloc, "scattered", &mesh, &printer).ok()?;
-    Some((object.bands, object.zones.len()))
+    let corners = corners_of(object.zones.as_slice());
+    Some((object.bands, object.zones.len(), corners))
 }
 
 // The number of facets, and how far each rises.
@@ -114,7 +125,7 @@ fn sizes_of(word: Option<String>) -> (u32, u32)
     match word {
         Some(word) if word.as_str() == "tall" => (200_000, 195_000),
         Some(word) if word.as_str() == "small" => (200_000, 5_000),
-        _ => (2_000, 5_000),
+        _ => (3_000, 195_000),
     }
 }
 
@@ -124,10 +135,10 @@ fn main(rt: HostRuntime) -> ExitCode {
         return ExitCode::from(2);
     };
     let (count, rise) = sizes_of(args.nth(1));
-    let Some((bands, zones)) = sliced(alloc, count, rise) else {
+    let Some((bands, zones, corners)) = sliced(alloc, count, rise) else {
         return ExitCode::from(9);
     };
-    match println!(rt; "{bands} bands, {zones} zones") {
+    match println!(rt; "{bands} bands, {zones} zones, {corners} corners") {
         Ok(()) => ExitCode::from(0),
         Err(_) => ExitCode::from(8),
     }

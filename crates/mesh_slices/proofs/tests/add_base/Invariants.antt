@@ -2,5 +2,5 @@ use Rattle.std.proofs.Common.{All}
 use Rattle.seq_model.specs.Bounds.{IsNearFacet}
 use Rattle.mesh_slices.proofs.tests.add_base.Given as goal
 
-abbrev pub invariant-loop-k : goal.invariant-loop-k
-invariant-loop-k l = All IsNearFacet l.facets.items
+abbrev pub invariant-loop-place : goal.invariant-loop-place
+invariant-loop-place l = All IsNearFacet l.facets.items
