@@ -154,7 +154,12 @@ fn add_cover(facets: &mut Vec<Facet>, base: &[(u8, u8)], z: u8) -> Result<(), Al
 }
 
 // The facets of a prism, without its base.
-fn add_prism(facets: &mut Vec<Facet>, base: &[(u8, u8)], low: u8, high: u8) -> Result<(), AllocError>
+fn add_prism(
+    facets: &mut Vec<Facet>,
+    base: &[(u8, u8)],
+    low: u8,
+    high: u8,
+) -> Result<(), AllocError>
     requires { All IsNearFacet facets.old.items }
     ensures { OnOk result (All IsNearFacet facets.new.items) }
 {
@@ -169,7 +174,12 @@ fn add_prism(facets: &mut Vec<Facet>, base: &[(u8, u8)], low: u8, high: u8) -> R
 }
 
 // The facets of a cone, without its base.
-fn add_cone(facets: &mut Vec<Facet>, base: &[(u8, u8)], low: u8, top: Point3) -> Result<(), AllocError>
+fn add_cone(
+    facets: &mut Vec<Facet>,
+    base: &[(u8, u8)],
+    low: u8,
+    top: Point3,
+) -> Result<(), AllocError>
     requires top { IsNear top }
     requires facets { All IsNearFacet facets.old.items }
     ensures { OnOk result (All IsNearFacet facets.new.items) }
