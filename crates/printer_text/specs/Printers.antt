@@ -1,6 +1,8 @@
 -- The printer of a description.
 --
---   outline_in sizes bar t  the corners that a part lists, or those of its bar
+--   outline_of bar said     the corners that a part lists, or those of its bar
+--   outline_in sizes bar t  the same, read from a table
+--   part_with begun corners the part of these keys with these corners
 --   part_in n sizes t       the part that table n lists, 1 + p for listed part p
 --   parts_behind n sizes done ds    the listed parts from number n on, behind those that are read
 --   top_in t                what the top table says
