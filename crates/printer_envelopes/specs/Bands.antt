@@ -9,11 +9,11 @@ use Rattle.seq_model.specs.Scenes.{Meets}
 use Rattle.seq_model.specs.declared.job.Zone.{Zone}
 use Rattle.seq_model.specs.declared.printer.Part.{Part}
 
--- the height at which a part begins, in bands: a band that it touches counts
+-- the height at which a part begins, in bands: a band that it overlaps in height at some moment counts
 abbrev pub first_band : ℤ → ℤ → ℕ
 first_band from step = unsigned_abs (floor from step)
 
--- the height at which a part ends, in bands: a band that it touches counts
+-- the height at which a part ends, in bands: a band that it overlaps in height at some moment counts
 abbrev pub last_band : ℤ → ℤ → ℕ
 last_band to step = unsigned_abs (ceil to step)
 

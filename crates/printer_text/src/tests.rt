@@ -42,8 +42,16 @@ const TO_HIGH: &str =
 const SECOND: &str =
     "format = 1\ngrain = 1\nplate = [100, 100]\nstep = 10\nmargin = 1\ngrid = 100\n[[part]]\nname = \"a\"\nfrom = 5\ncorners = [[0, 0]]\n[[part]]\n";
 
+const FINE: &str = "format = 1\ngrain = \"0.01\"\n";
+
+const FINE_TO_FROM: &str =
+    "format = 1\ngrain = \"0.01\"\nplate = [200, \"0.01\"]\nstep = \"0.01\"\nmargin = 10\ngrid = 1000\n[[part]]\nname = \"a\"\n";
+
+const FINE_TO_TO: &str =
+    "format = 1\ngrain = \"0.01\"\nplate = [200, \"0.01\"]\nstep = \"0.01\"\nmargin = 10\ngrid = 1000\n[[part]]\nname = \"a\"\nfrom = 0\n";
+
 // the lines that a description begins with, those that follow, and its refusal
-static REFUSED: [(&str, &str, Want); 91] = [
+static REFUSED: [(&str, &str, Want); 108] = [
     // the top table, key by key
     ("", "", Want::Key(Cause::Missing, Key::Format, 0)),
     ("", "format = \"1\"", Want::Key(Cause::Kind, Key::Format, 0)),
@@ -347,6 +355,80 @@ static REFUSED: [(&str, &str, Want); 91] = [
         "name = \"b\"\nfrom = 0.0",
         Want::Key(Cause::FloatLength, Key::From, 2),
     ),
+    // limits, one µm or one grain of 10 µm beyond them
+    ("", "format = 0", Want::Key(Cause::Range, Key::Format, 0)),
+    (
+        TO_GRAIN,
+        "grain = \"10.001\"",
+        Want::Key(Cause::Range, Key::Grain, 0),
+    ),
+    (
+        TO_STEP,
+        "step = \"100.001\"",
+        Want::Key(Cause::Range, Key::Step, 0),
+    ),
+    (TO_GRID, "grid = -1", Want::Key(Cause::Range, Key::Grid, 0)),
+    (
+        TO_FROM,
+        "from = \"-0.001\"",
+        Want::Key(Cause::Range, Key::From, 1),
+    ),
+    (TO_TO, "to = 10001", Want::Key(Cause::Range, Key::To, 1)),
+    (
+        FINE,
+        "plate = [\"200.01\", 0.0]",
+        Want::Key(Cause::Range, Key::Plate, 0),
+    ),
+    (
+        FINE,
+        "plate = [200, \"200.001\"]",
+        Want::Key(Cause::Range, Key::Plate, 0),
+    ),
+    (
+        FINE,
+        "plate = [200, \"0.005\"]",
+        Want::Key(Cause::Range, Key::Plate, 0),
+    ),
+    (
+        FINE,
+        "plate = [200, 200]\nstep = 1\nmargin = \"10.01\"",
+        Want::Key(Cause::Range, Key::Margin, 0),
+    ),
+    (
+        FINE,
+        "plate = [200, 200]\nstep = 1\nmargin = \"0.009\"",
+        Want::Key(Cause::Range, Key::Margin, 0),
+    ),
+    (
+        FINE_TO_TO,
+        "corners = [[\"1000.01\", 0.0]]",
+        Want::Key(Cause::Range, Key::Corners, 1),
+    ),
+    (
+        FINE_TO_TO,
+        "corners = [[1000, \"-1000.001\"]]",
+        Want::Key(Cause::Range, Key::Corners, 1),
+    ),
+    (
+        FINE_TO_TO,
+        "bar = \"x\"\nlow = \"-1000.01\"",
+        Want::Key(Cause::Range, Key::Low, 1),
+    ),
+    (
+        FINE_TO_TO,
+        "bar = \"x\"\nlow = \"1000.01\"",
+        Want::Key(Cause::Range, Key::Low, 1),
+    ),
+    (
+        FINE_TO_TO,
+        "bar = \"y\"\nlow = 1000\nhigh = \"1000.01\"",
+        Want::Key(Cause::Range, Key::High, 1),
+    ),
+    (
+        FINE_TO_TO,
+        "bar = \"y\"\nlow = 1000\nhigh = \"999.99\"",
+        Want::Key(Cause::Range, Key::High, 1),
+    ),
     // no TOML
     ("", "format = ", Want::Toml),
     ("", "format = 9223372036854775808", Want::Toml),
@@ -377,7 +459,7 @@ static UNKNOWN: [(&str, &str, &str, u32); 9] = [
 ];
 
 // the same, and the grain, width, depth, step, margin and grid of the printer
-static SIZES: [(&str, &str, (i64, i64, i64, i64, i64, u32)); 4] = [
+static SIZES: [(&str, &str, (i64, i64, i64, i64, i64, u32)); 6] = [
     (TOP, "", (1000, 100, 100, 10000, 1, 100)),
     (
         TO_STEP,
@@ -394,10 +476,20 @@ static SIZES: [(&str, &str, (i64, i64, i64, i64, i64, u32)); 4] = [
         "grain = 10\nplate = [10000, 10]\nstep = \"0.0095\"\nmargin = 10\ngrid = 7\npart = []\n",
         (10000, 1000, 1, 10, 1, 7),
     ),
+    (
+        FINE,
+        "plate = [\"200\", 200]\nstep = \"0.01\"\nmargin = 10\ngrid = 1\n",
+        (10, 20000, 20000, 10, 1000, 1),
+    ),
+    (
+        FINE,
+        "plate = [200, \"0.01\"]\nstep = \"99.9995\"\nmargin = \"0.01\"\ngrid = 1\n",
+        (10, 20000, 1, 100000, 1, 1),
+    ),
 ];
 
 // the same, with lo, hi and the kept corners of the first listed part
-static PARTS: [(&str, &str, u32, Option<u32>, &[(i64, i64)]); 6] = [
+static PARTS: [(&str, &str, u32, Option<u32>, &[(i64, i64)]); 12] = [
     (
         TO_TO,
         "to = 11\ncorners = [[0, 0]]\n",
@@ -439,6 +531,53 @@ static PARTS: [(&str, &str, u32, Option<u32>, &[(i64, i64)]); 6] = [
         2,
         Some(3),
         &[(-101, -10), (101, -10), (101, 10), (-101, 10)],
+    ),
+    (
+        FINE_TO_TO,
+        "corners = [[\"1000\", -1000], [-1000, \"1000\"]]\n",
+        0,
+        None,
+        &[(-100000, 100000), (100000, -100000)],
+    ),
+    (
+        FINE_TO_TO,
+        "bar = \"x\"\nlow = -1000\nhigh = 1000\n",
+        0,
+        None,
+        &[
+            (-20001, -100000),
+            (20001, -100000),
+            (20001, 100000),
+            (-20001, 100000),
+        ],
+    ),
+    (
+        FINE_TO_TO,
+        "bar = \"y\"\nlow = 1000\nhigh = 1000\n",
+        0,
+        None,
+        &[(100000, -2), (100000, 2)],
+    ),
+    (
+        FINE_TO_FROM,
+        "from = 10000\nto = 10000\ncorners = [[0, 0]]\n",
+        1_000_000,
+        Some(1_000_000),
+        &[(0, 0)],
+    ),
+    (
+        TO_FROM,
+        "from = 10000\nto = \"10000\"\ncorners = [[0, 0]]\n",
+        1000,
+        Some(1000),
+        &[(0, 0)],
+    ),
+    (
+        TO_TO,
+        "corners = [[0, 0], [0, 0], [0, 0], [0, 0], [0, 0], [0, 0], [0, 0], [0, 0], [0, 0], [0, 0], [0, 0], [0, 0], [0, 0], [0, 0], [0, 0], [0, 0], [0, 0], [0, 0], [0, 0], [0, 0], [0, 0], [0, 0], [0, 0], [0, 0], [0, 0], [0, 0], [0, 0], [0, 0], [0, 0], [0, 0], [0, 0], [1, 0]]\n",
+        0,
+        None,
+        &[(0, 0), (1, 0)],
     ),
 ];
 
