@@ -1,7 +1,7 @@
 //! Systems, contradictions, and how many nodes are enough.
 
-ghost use Rattle.std.specs.Prelude.{◌≡◌};
-ghost use Rattle.seq_model.specs.Budgets.{full_of};
+ghost use Rattle.std.specs.Prelude.{◌≡◌, ◌↔◌, ℕ};
+ghost use Rattle.seq_model.specs.Budgets.{IsMostSides, Full, full_of};
 ghost use Rattle.seq_model.specs.Systems.{system, Contradiction};
 ghost use Rattle.model_examples.specs.Rows.{rows_at_45, path_to_the_east, times};
 ghost use Rattle.model_examples.specs.Jobs.{two_cubes, two_wedges, three_cubes};
@@ -19,4 +19,10 @@ pub fn enough_nodes()
     ensures two_cubes { full_of two_cubes 4 ≡ 64 }
     ensures two_wedges { full_of two_wedges 6 ≡ 144 }
     ensures three_cubes { full_of three_cubes 4 ≡ 65_536 }
+{}
+
+/// No contact of two cubes has more than four sides, and one has four. So 64 nodes are enough, and that is the only such number.
+pub fn nodes_enough_for_two_cubes()
+    ensures most_sides { (s : ℕ) → IsMostSides two_cubes s ↔ (s ≡ 4) }
+    ensures full { (n : ℕ) → Full two_cubes n ↔ (n ≡ 64) }
 {}
