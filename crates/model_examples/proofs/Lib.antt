@@ -1,6 +1,9 @@
 pub mod Apart
 pub mod Between
 pub mod CubeLaws
+pub mod CycleLaws
+pub mod FullLaws
+pub mod OneList
 pub mod PlanLaws
 pub mod SideLaws
 pub mod SplitLaws

@@ -145,12 +145,42 @@ cube_west = record { primitive = λ n h k. eq-one_of_dvd-one h; a = spot (negsuc
 cube_south : Side cube_points south
 cube_south = record { primitive = λ n h k. eq-one_of_dvd-one k; a = spot (negsuc 23) (negsuc 23); b = spot (negsuc 19) (negsuc 23); a_in = (10, lit< tt, refl); b_in = (11, lit< tt, refl); apart = λ e. absurd (omega (arith, ints, ap (λ (s : Spot). s.x) e)); at_a = refl; at_b = refl }
 
-cube_listed : (t : Dir) → In t (east ∷ north ∷ west ∷ south ∷ []) → Side cube_points t
-cube_listed t (inl e) = subst (Side cube_points) (sym e) cube_east
-cube_listed t (inr (inl e)) = subst (Side cube_points) (sym e) cube_north
-cube_listed t (inr (inr (inl e))) = subst (Side cube_points) (sym e) cube_west
-cube_listed t (inr (inr (inr (inl e)))) = subst (Side cube_points) (sym e) cube_south
-cube_listed t (inr (inr (inr (inr i)))) = absurd i
+-- four sides along the axes
+record FourSides (S : List Spot) : Type 0 where
+  side_east : Side S east
+  side_north : Side S north
+  side_west : Side S west
+  side_south : Side S south
+  east_north : Neighbours S east north
+  north_west : Neighbours S north west
+  west_south : Neighbours S west south
+  south_east : Neighbours S south east
+
+cube_four : FourSides cube_points
+cube_four = record { side_east = cube_east; side_north = cube_north; side_west = cube_west; side_south = cube_south; east_north = cube_east_north; north_west = cube_north_west; west_south = cube_west_south; south_east = cube_south_east }
+
+four_listed : (S : List Spot) → FourSides S → (t : Dir) → In t (east ∷ north ∷ west ∷ south ∷ []) → Side S t
+four_listed S f t (inl e) = subst (Side S) (sym e) f.side_east
+four_listed S f t (inr (inl e)) = subst (Side S) (sym e) f.side_north
+four_listed S f t (inr (inr (inl e))) = subst (Side S) (sym e) f.side_west
+four_listed S f t (inr (inr (inr (inl e)))) = subst (Side S) (sym e) f.side_south
+four_listed S f t (inr (inr (inr (inr i)))) = absurd i
+
+-- ---- two cubes by the tip's one point
+abbrev pub tip_points : List Spot
+tip_points = difference cube cube (spot (pos 0) (pos 0) ∷ [])
+
+tip_four : FourSides tip_points
+tip_four = record {
+  side_east = record { primitive = λ n h k. eq-one_of_dvd-one h; a = spot (pos 22) (pos 0); b = spot (pos 22) (pos 22); a_in = (4, lit< tt, refl); b_in = (8, lit< tt, refl); apart = λ e. absurd (omega (arith, ints, ap (λ (s : Spot). s.y) e)); at_a = refl; at_b = refl };
+  side_north = record { primitive = λ n h k. eq-one_of_dvd-one k; a = spot (pos 22) (pos 22); b = spot (pos 0) (pos 22); a_in = (8, lit< tt, refl); b_in = (9, lit< tt, refl); apart = λ e. absurd (omega (arith, ints, ap (λ (s : Spot). s.x) e)); at_a = refl; at_b = refl };
+  side_west = record { primitive = λ n h k. eq-one_of_dvd-one h; a = spot (negsuc 21) (pos 0); b = spot (negsuc 21) (negsuc 21); a_in = (1, lit< tt, refl); b_in = (2, lit< tt, refl); apart = λ e. absurd (omega (arith, ints, ap (λ (s : Spot). s.y) e)); at_a = refl; at_b = refl };
+  side_south = record { primitive = λ n h k. eq-one_of_dvd-one k; a = spot (negsuc 21) (negsuc 21); b = spot (pos 0) (negsuc 21); a_in = (2, lit< tt, refl); b_in = (3, lit< tt, refl); apart = λ e. absurd (omega (arith, ints, ap (λ (s : Spot). s.x) e)); at_a = refl; at_b = refl };
+  east_north = neighbours tip_points east north (spot (pos 22) (pos 22)) 8 (lit< tt) refl refl refl refl;
+  north_west = neighbours tip_points north west (spot (negsuc 21) (pos 22)) 13 (lit< tt) refl refl refl refl;
+  west_south = neighbours tip_points west south (spot (negsuc 21) (negsuc 21)) 2 (lit< tt) refl refl refl refl;
+  south_east = neighbours tip_points south east (spot (pos 22) (negsuc 21)) 7 (lit< tt) refl refl refl refl;
+}
 
 -- a direction that is no listed one lies strictly between two neighbours, or is no side at all
 wedge_only : (t : Dir) → Side wedge_points t → In t (east ∷ northeast ∷ north ∷ west ∷ southwest ∷ south ∷ [])
@@ -189,8 +219,8 @@ wedge_only t s = by_three (pos 0) t.y upper level lower
         (λ zero. on_y (along_y t s.primitive zero))
         (λ right. absurd (between wedge_points south east t wedge_south_east s (omega (arith, ints, down, right)) (omega (arith, ints, down, right))))
 
-cube_only : (t : Dir) → Side cube_points t → In t (east ∷ north ∷ west ∷ south ∷ [])
-cube_only t s = by_three (pos 0) t.y upper level lower
+four_only : (S : List Spot) → FourSides S → (t : Dir) → Side S t → In t (east ∷ north ∷ west ∷ south ∷ [])
+four_only S f t s = by_three (pos 0) t.y upper level lower
   where
     on_x : ((t ≡ east) ⊎ (t ≡ west)) → In t (east ∷ north ∷ west ∷ south ∷ [])
     on_x (inl e) = inl e
@@ -202,18 +232,18 @@ cube_only t s = by_three (pos 0) t.y upper level lower
 
     upper : pos 0 <ℤ t.y → In t (east ∷ north ∷ west ∷ south ∷ [])
     upper up = by_three t.x (pos 0)
-        (λ left. absurd (between cube_points north west t cube_north_west s (omega (arith, ints, up, left)) (omega (arith, ints, up, left))))
+        (λ left. absurd (between S north west t f.north_west s (omega (arith, ints, up, left)) (omega (arith, ints, up, left))))
         (λ zero. on_y (along_y t s.primitive zero))
-        (λ right. absurd (between cube_points east north t cube_east_north s (omega (arith, ints, up, right)) (omega (arith, ints, up, right))))
+        (λ right. absurd (between S east north t f.east_north s (omega (arith, ints, up, right)) (omega (arith, ints, up, right))))
 
     level : pos 0 ≡ t.y → In t (east ∷ north ∷ west ∷ south ∷ [])
     level zero = on_x (along_x t s.primitive (sym zero))
 
     lower : t.y <ℤ pos 0 → In t (east ∷ north ∷ west ∷ south ∷ [])
     lower down = by_three t.x (pos 0)
-        (λ left. absurd (between cube_points west south t cube_west_south s (omega (arith, ints, down, left)) (omega (arith, ints, down, left))))
+        (λ left. absurd (between S west south t f.west_south s (omega (arith, ints, down, left)) (omega (arith, ints, down, left))))
         (λ zero. on_y (along_y t s.primitive zero))
-        (λ right. absurd (between cube_points south east t cube_south_east s (omega (arith, ints, down, right)) (omega (arith, ints, down, right))))
+        (λ right. absurd (between S south east t f.south_east s (omega (arith, ints, down, right)) (omega (arith, ints, down, right))))
 
 -- ---- by angle
 -- two of the same half
@@ -262,8 +292,14 @@ wedge_sides = record {
   order = pairs_of HasLesserAngle (east ∷ northeast ∷ north ∷ west ∷ southwest ∷ south ∷ []) ((later_upper east northeast east_upper northeast_upper (lt_z_yes tt), (later_upper east north east_upper north_upper (lt_z_yes tt), (other_half east west east_upper west_lower, (other_half east southwest east_upper southwest_lower, (other_half east south east_upper south_lower, tt))))), ((later_upper northeast north northeast_upper north_upper (lt_z_yes tt), (other_half northeast west northeast_upper west_lower, (other_half northeast southwest northeast_upper southwest_lower, (other_half northeast south northeast_upper south_lower, tt)))), ((other_half north west north_upper west_lower, (other_half north southwest north_upper southwest_lower, (other_half north south north_upper south_lower, tt))), ((later_lower west southwest west_lower southwest_lower (lt_z_yes tt), (later_lower west south west_lower south_lower (lt_z_yes tt), tt)), ((later_lower southwest south southwest_lower south_lower (lt_z_yes tt), tt), (tt, tt))))));
 }
 
-pub cube_sides : AreSides cube_points (east ∷ north ∷ west ∷ south ∷ [])
-cube_sides = record {
-  each = λ t. (λ c. cube_listed t (In-from_contains (east ∷ north ∷ west ∷ south ∷ []) t c), λ s. Contains-from_in (east ∷ north ∷ west ∷ south ∷ []) t (cube_only t s));
+four_sides_of : (S : List Spot) → FourSides S → AreSides S (east ∷ north ∷ west ∷ south ∷ [])
+four_sides_of S f = record {
+  each = λ t. (λ c. four_listed S f t (In-from_contains (east ∷ north ∷ west ∷ south ∷ []) t c), λ s. Contains-from_in (east ∷ north ∷ west ∷ south ∷ []) t (four_only S f t s));
   order = pairs_of HasLesserAngle (east ∷ north ∷ west ∷ south ∷ []) ((later_upper east north east_upper north_upper (lt_z_yes tt), (other_half east west east_upper west_lower, (other_half east south east_upper south_lower, tt))), ((other_half north west north_upper west_lower, (other_half north south north_upper south_lower, tt)), ((later_lower west south west_lower south_lower (lt_z_yes tt), tt), (tt, tt))));
 }
+
+pub cube_sides : AreSides cube_points (east ∷ north ∷ west ∷ south ∷ [])
+cube_sides = four_sides_of cube_points cube_four
+
+pub tip_sides : AreSides tip_points (east ∷ north ∷ west ∷ south ∷ [])
+tip_sides = four_sides_of tip_points tip_four

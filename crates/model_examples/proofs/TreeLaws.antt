@@ -19,7 +19,7 @@ use Rattle.seq_model.specs.declared.tree.Choice.TheVariants as Choices
 use Rattle.seq_model.specs.declared.tree.Dir.{Dir}
 use Rattle.seq_model.specs.declared.tree.Node.{Node}
 
-is_first : IsContact two_cubes first_contact
+pub is_first : IsContact two_cubes first_contact
 is_first = record { i_in = lit< tt; j_in = lit< tt; apart = λ e. absurd (omega (arith, e)); zi_in = lit< tt; zj_in = lit< tt; part_in = lit< tt; meet = refl }
 
 is_second : IsContact two_cubes second_contact

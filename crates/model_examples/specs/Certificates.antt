@@ -2,10 +2,13 @@
 --
 --   four_sides       the sides of two cubes with the nozzle, by angle; six_sides those of two wedges
 --   bound r m s n    the leaf that takes row r m times and row s n times
+--   before i j       the choice that object i is printed before object j
 --   tree first       the tree whose first bound is this leaf: an order of the two cubes, and for each order a leaf on each side
 use Rattle.std.specs.Prelude.{ℕ, List, [], ◌∷◌}
 use Rattle.model_examples.specs.Cubes.{first_contact, second_contact, east, northeast, north, west, southwest, south}
 use Rattle.model_examples.specs.Rows.{times}
+use Rattle.seq_model.specs.declared.tree.Choice.{Choice}
+use Rattle.seq_model.specs.declared.tree.Choice.TheVariants as Choices
 use Rattle.seq_model.specs.declared.tree.Dir.{Dir}
 use Rattle.seq_model.specs.declared.tree.Node.{Node}
 use Rattle.seq_model.specs.declared.tree.Node.TheVariants as Nodes
@@ -15,6 +18,9 @@ four_sides = east ∷ north ∷ west ∷ south ∷ []
 
 abbrev pub six_sides : List Dir
 six_sides = east ∷ northeast ∷ north ∷ west ∷ southwest ∷ south ∷ []
+
+abbrev pub before : ℕ → ℕ → Choice
+before i j = Choices.Before i j
 
 abbrev pub bound : ℕ → ℕ → ℕ → ℕ → Node
 bound r m s n = Nodes.Bound (times r m s n)

@@ -22,7 +22,7 @@ use Rattle.model_examples.specs.Deciding.{EachOf, all_of, turns_left, turns_left
 use Rattle.model_examples.specs.Cubes.{spot, cube, wedge, nozzle, gantry, object_of}
 
 -- its corners lie to the right of the first, or above it at the same x
-first_of : (c : Spot) (cs : List Spot) → EachOf (IsBefore c) cs → turns_left (c ∷ cs) ≡ true → AreCorners (c ∷ cs)
+pub first_of : (c : Spot) (cs : List Spot) → EachOf (IsBefore c) cs → turns_left (c ∷ cs) ≡ true → AreCorners (c ∷ cs)
 first_of c cs e left = record { least = all_of (IsBefore c) cs e; left = turns_left_is (c ∷ cs) left }
 
 origin_corners : AreCorners (spot (pos 0) (pos 0) ∷ [])
@@ -41,10 +41,10 @@ wedge_corners : AreCorners wedge
 wedge_corners = first_of (spot (negsuc 0) (negsuc 0)) (spot (pos 21) (negsuc 0) ∷ spot (pos 21) (pos 1) ∷ spot (pos 1) (pos 21) ∷ spot (negsuc 0) (pos 21) ∷ []) (inl (lt_z_yes tt), (inl (lt_z_yes tt), (inl (lt_z_yes tt), (inr (refl, lt_z_yes tt), tt)))) refl
 
 -- ---- the parts and the printer
-sound_tip : IsSoundPart tip
+pub sound_tip : IsSoundPart tip
 sound_tip = record { name = record { some = lit≤ tt; few = lit≤ tt; plain = refl }; some = lit≤ tt; few = lit≤ tt; near = are_near_is 100_000 tip.corners refl; corners = origin_corners; low = lit≤ tt; high = λ hi e. subst (λ n. (0 ≤ n) × (n ≤ 1_000_000)) (same_Some _ _ e) (lit≤ tt, lit≤ tt) }
 
-sound_part : (part : Part) → IsPartName part.name → 1 ≤ length part.corners → length part.corners ≤ 32 → are_near 100_000 part.corners ≡ true → AreCorners part.corners → part.lo ≤ 1_000_000 → part.hi ≡ None → IsSoundPart part
+pub sound_part : (part : Part) → IsPartName part.name → 1 ≤ length part.corners → length part.corners ≤ 32 → are_near 100_000 part.corners ≡ true → AreCorners part.corners → part.lo ≤ 1_000_000 → part.hi ≡ None → IsSoundPart part
 sound_part part name some few near corners low end = record { name = name; some = some; few = few; near = are_near_is 100_000 part.corners near; corners = corners; low = low; high = λ hi e. absurd (none-some hi (sym end ∙ e)) }
 
 abbrev pub nozzle_part : Part

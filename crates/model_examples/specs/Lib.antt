@@ -5,3 +5,4 @@ pub mod Jobs
 pub mod Plans
 pub mod Rows
 pub mod Solving
+pub mod Uneven

@@ -14,4 +14,5 @@ pub mod sides;
 pub mod splits;
 pub mod systems;
 pub mod trees;
+pub mod uneven;
 pub mod walks;

@@ -1,7 +1,7 @@
 //! Systems, contradictions, and how many nodes are enough.
 
-ghost use Rattle.std.specs.Prelude.{◌≡◌, [], ◌∷◌, pos, negsuc};
-ghost use Rattle.seq_model.specs.Budgets.{full_of};
+ghost use Rattle.std.specs.Prelude.{◌≡◌, ◌↔◌, ℕ, [], ◌∷◌, pos, negsuc};
+ghost use Rattle.seq_model.specs.Budgets.{IsMostSides, Full, full_of};
 ghost use Rattle.seq_model.specs.Systems.{system, Contradiction};
 ghost use Rattle.model_examples.specs.Rows.{row, rows_at_45, path_to_the_east, times};
 ghost use Rattle.model_examples.specs.Jobs.{two_cubes, two_wedges, three_cubes, cube_on_a_narrow_plate};
@@ -24,4 +24,10 @@ pub fn enough_nodes()
 /// The bounds of one cube at extent 46 of a plate of 100 by 50, whose region is 46 by 23: 24 in x and 1 in y.
 pub fn bounds_on_a_narrow_plate()
     ensures { system cube_on_a_narrow_plate 46 [] ≡ row (pos 24) (negsuc 0 ∷ pos 0 ∷ []) ∷ row (pos 1) (pos 0 ∷ negsuc 0 ∷ []) ∷ [] }
+{}
+
+/// No contact of two cubes has more than four sides, and one has four. So 64 nodes are enough, and that is the only such number.
+pub fn nodes_enough_for_two_cubes()
+    ensures most_sides { (s : ℕ) → IsMostSides two_cubes s ↔ (s ≡ 4) }
+    ensures full { (n : ℕ) → Full two_cubes n ↔ (n ≡ 64) }
 {}

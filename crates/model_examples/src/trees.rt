@@ -1,13 +1,26 @@
 //! Trees that refute an extent.
 
-ghost use Rattle.std.specs.Prelude.{[]};
+ghost use Rattle.std.specs.Prelude.{[], ◌∷◌};
 ghost use Rattle.seq_model.specs.Trees.{Refutes};
-ghost use Rattle.model_examples.specs.Certificates.{tree, bound};
-ghost use Rattle.model_examples.specs.Jobs.{two_cubes};
+ghost use Rattle.seq_model.specs.declared.tree.Node.TheVariants as Nodes;
+ghost use Rattle.model_examples.specs.Certificates.{tree, bound, before};
+ghost use Rattle.model_examples.specs.Jobs.{two_cubes, three_cubes};
 
 /// Two cubes don't fit extent 45: whichever comes first, on each side of the other two rows contradict each other. Without row 2
 /// the first of these leaves contradicts nothing, and the tree refutes nothing.
 pub fn two_cubes_dont_fit_45()
     ensures refutes { Refutes two_cubes 45 [] (tree (bound 2 1 4 1)) }
     ensures without_row_2 { Refutes two_cubes 45 [] (tree (bound 2 0 4 1)) → ⊥ }
+{}
+
+/// A cycle runs along orders of the path: 0 before 1 and 1 before 0 are one, and 0 before 1 alone is none. It runs along them in their
+/// direction, the last object comes before the first, and one object is no cycle.
+pub fn cycles_of_a_path()
+    ensures two { Refutes two_cubes 100 (before 0 1 ∷ before 1 0 ∷ []) (Nodes.Cycle (0 ∷ 1 ∷ []) ∷ []) }
+    ensures one_way { Refutes two_cubes 100 (before 0 1 ∷ []) (Nodes.Cycle (0 ∷ 1 ∷ []) ∷ []) → ⊥ }
+    ensures other_way { Refutes two_cubes 100 (before 0 1 ∷ []) (Nodes.Cycle (1 ∷ 0 ∷ []) ∷ []) → ⊥ }
+    ensures three { Refutes three_cubes 100 (before 0 1 ∷ before 1 2 ∷ before 2 0 ∷ []) (Nodes.Cycle (0 ∷ 1 ∷ 2 ∷ []) ∷ []) }
+    ensures backwards { Refutes three_cubes 100 (before 0 1 ∷ before 1 2 ∷ before 2 0 ∷ []) (Nodes.Cycle (0 ∷ 2 ∷ 1 ∷ []) ∷ []) → ⊥ }
+    ensures one_object { Refutes two_cubes 100 (before 0 0 ∷ []) (Nodes.Cycle (0 ∷ []) ∷ []) → ⊥ }
+    ensures no_object { Refutes two_cubes 100 (before 0 0 ∷ []) (Nodes.Cycle [] ∷ []) → ⊥ }
 {}
