@@ -14,7 +14,7 @@ pub fn two_cubes_at_45()
     ensures without_row_2 { Contradiction rows_at_45 (times 2 0 4 1) → ⊥ }
 {}
 
-/// Enough nodes for any search, by the number of sides.
+/// How many nodes are meant to be enough for any search, by the number of sides.
 pub fn enough_nodes()
     ensures two_cubes { full_of two_cubes 4 ≡ 64 }
     ensures two_wedges { full_of two_wedges 6 ≡ 144 }
@@ -26,7 +26,7 @@ pub fn bounds_on_a_narrow_plate()
     ensures { system cube_on_a_narrow_plate 46 [] ≡ row (pos 24) (negsuc 0 ∷ pos 0 ∷ []) ∷ row (pos 1) (pos 0 ∷ negsuc 0 ∷ []) ∷ [] }
 {}
 
-/// No contact of two cubes has more than four sides, and one has four. So 64 nodes are enough, and that is the only such number.
+/// No contact of two cubes has more than four sides, and one has four. So their number of nodes is 64, and no other.
 pub fn nodes_enough_for_two_cubes()
     ensures most_sides { (s : ℕ) → IsMostSides two_cubes s ↔ (s ≡ 4) }
     ensures full { (n : ℕ) → Full two_cubes n ↔ (n ≡ 64) }
