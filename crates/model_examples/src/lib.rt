@@ -4,7 +4,7 @@
 //! were worked out by hand: which points are inner, when two cubes collide, the system of a path, a tree that refutes an
 //! extent, a walk of bases. `specs/Cubes.antt` and `specs/Jobs.antt` have the cubes, the wedges, their printer and their jobs.
 //!
-//! Nothing stands on this crate. It is here so that a definition that says something else than was meant isn't proved.
+//! Nothing stands on this crate. It is here so that the definitions can be held against worked numbers.
 #![tactic(auto)]
 
 pub mod bands;
