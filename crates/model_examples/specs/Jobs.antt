@@ -4,6 +4,7 @@
 --   printer                    the tip with both, over a plate of 100 by 100 grains of 1 mm
 --   two_cubes, two_wedges, three_cubes   jobs of cubes and wedges of two bands
 --   tall_and_low               a cube of four bands and one of two
+--   cube_on_a_narrow_plate     one cube, on a plate of 100 by 50
 use Rattle.std.proofs.Common.{◌≡◌, ◌∙◌, sym, subst, ◌<◌, ◌≤◌, List, [], ◌∷◌, length, refl, pos, negsuc, true, None, inl, inr, lit<, lit≤, codes, arith}
 use Rattle.std.proofs.lemmas.Option.{none-some, same_Some}
 use lib.Signed.{le_z_yes, lt_z_yes}
@@ -124,4 +125,18 @@ tall_and_low = record {
   printer = printer;
   objects = tall_cube ∷ object_of cube ∷ [];
   sound = record { some = lit≤ tt; few = lit≤ tt; each = all_of IsSoundObject (tall_cube ∷ object_of cube ∷ []) (sound_tall_cube, (sound_cube, tt)) };
+}
+
+-- ---- a plate of 100 by 50
+pub in_narrow_ranges : IsPrinter (pos 1000) (pos 100) (pos 50) (pos 10000) (pos 1) 100
+in_narrow_ranges = record { grain_low = le_z_yes tt; grain_high = le_z_yes tt; width_low = le_z_yes tt; width_high = le_z_yes tt; depth_low = le_z_yes tt; depth_high = le_z_yes tt; step_low = le_z_yes tt; step_high = le_z_yes tt; margin_low = le_z_yes tt; margin_high = le_z_yes tt; grid_low = lit≤ tt; grid_high = lit≤ tt }
+
+pub one_sound : AreSoundObjects (object_of cube ∷ [])
+one_sound = record { some = lit≤ tt; few = lit≤ tt; each = all_of IsSoundObject (object_of cube ∷ []) (sound_cube, tt) }
+
+abbrev pub cube_on_a_narrow_plate : Job
+cube_on_a_narrow_plate = record {
+  printer = record { grain = pos 1000; width = pos 100; depth = pos 50; step = pos 10000; margin = pos 1; grid = 100; parts = tip ∷ nozzle_part ∷ gantry_part ∷ []; ranged = in_narrow_ranges; parts_are = sound_parts };
+  objects = object_of cube ∷ [];
+  sound = one_sound;
 }

@@ -1,5 +1,5 @@
 -- The corners of a hull are those of a part, and what a loop over the listed parts keeps.
-use Rattle.std.proofs.Common.{◌≡◌, ℕ, zero, suc, ◌+◌, ◌<◌, ◌≤◌, ◌^◌, ℤ, pos, ◌-ℤ◌, ◌*ℤ◌, ◌<ℤ◌, ◌≤ℤ◌, unsigned_abs, ◌↔◌, List, [], ◌∷◌, ◌++◌, length, take, drop, get_or, All, Contains, Some, Ok, Err, refl, sym, ap, ◌∙◌, subst, arith, ◌⊎◌, inl, inr}
+use Rattle.std.proofs.Common.{◌≡◌, ℕ, ◌+◌, ◌<◌, ◌≤◌, ℤ, pos, ◌-ℤ◌, ◌*ℤ◌, ◌<ℤ◌, ◌≤ℤ◌, ◌↔◌, List, [], ◌∷◌, ◌++◌, length, take, drop, get_or, All, Contains, Some, Ok, Err, refl, sym, ap, ◌∙◌, subst, arith, inl, inr}
 use Rattle.std.proofs.lemmas.Int.{ints}
 use Rattle.std.proofs.lemmas.List.{length-append, drop_all}
 use Rattle.std.proofs.lemmas.List.Elements.{All-nil, All-cons, All-append}
@@ -7,9 +7,9 @@ use Rattle.integer_laws.specs.Members.{In, In-from_contains, Contains-from_in, A
 use Rattle.integer_laws.specs.Weights.{total}
 use Rattle.convex_outline.specs.Corners.{at_spot, IsNear}
 use Rattle.seq_model.specs.Bounds.{IsNearSpot}
-use Rattle.seq_model.specs.Corners.{turn, IsBefore, LeftAbout, TurnsLeft, AreCorners}
+use Rattle.seq_model.specs.Corners.{turn, IsBefore, LeftAbout, AreCorners}
 use Rattle.seq_model.specs.Outlines.{Inner, Within}
-use Rattle.seq_model.specs.Parts.{tip, IsPartName, IsSoundPart, AreParts}
+use Rattle.seq_model.specs.Parts.{tip, IsPartName, IsSoundPart}
 use Rattle.seq_model.specs.Points.{Point}
 use Rattle.seq_model.specs.declared.printer.Part.{Part}
 use Rattle.seq_model.specs.declared.printer.Spot.{Spot}
@@ -18,7 +18,7 @@ use Rattle.toml.specs.View.{view, items_view}
 use Rattle.toml.specs.declared.value.Value.{Value}
 use Rattle.printer_text.specs.declared.Prn.{Prn}
 use Rattle.printer_text.specs.declared.top.Sizes.{Sizes}
-use Rattle.printer_text.specs.Outlines.{IsOutline, IsListedPart}
+use Rattle.printer_text.specs.Outlines.{IsListedPart}
 use Rattle.printer_text.specs.Printers.{part_in, part_from, parts_behind, IsKept, AreKept, ArePartsOf}
 use Rattle.printer_text.specs.Values.{count}
 use Rattle.printer_text.proofs.ItemLaws.{items_more}
@@ -213,12 +213,9 @@ stops_at sizes all vs i d kept e h b why =
     let stop : parts_behind (i + 1) sizes b.parts (items_view (drop i vs)) ≡ Err e = rw (items_more vs i d h, why) refl in
     sym b.reads ∙ stop
 
-drop_end : (vs : List Value) (i : ℕ) → length vs ≤ i → drop i vs ≡ []
-drop_end vs i h = drop_all i vs h
-
 pub ends : (sizes : Sizes) (all : Items) (vs : List Value) (i : ℕ) (kept : List Part) → length vs ≤ i → count all ≤ 12 → Behind sizes all (items_view (drop i vs)) (i + 1) kept → ArePartsOf sizes all kept
 ends sizes all vs i kept h few b =
-    let none = drop_end vs i h in
+    let none = drop_all i vs h in
     let number = b.number in
     let left : count (items_view (drop i vs)) ≡ 0 = ap (λ l. count (items_view l)) none in
     record {

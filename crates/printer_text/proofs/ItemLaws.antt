@@ -1,7 +1,8 @@
 -- The items that a loop has left, and the pairs that are read of them.
 use Rattle.std.proofs.Common.{◌≡◌, ℕ, zero, suc, ◌+◌, ◌<◌, ◌≤◌, ℤ, List, [], ◌∷◌, length, drop, get_or, Ok, Err, refl, arith}
+use Rattle.std.proofs.lemmas.List.{drop_all}
 use Rattle.seq_model.specs.declared.printer.Spot.{Spot}
-use Rattle.toml.specs.Data.{Data, Items, item}
+use Rattle.toml.specs.Data.{Data, item}
 use Rattle.toml.specs.View.{view, items_view}
 use Rattle.toml.specs.declared.value.Value.{Value}
 use Rattle.toml.proofs.Views.{items_view-drop}
@@ -10,12 +11,6 @@ use Rattle.printer_text.specs.Values.{pair_of, pair_in, grains_in, pairs_behind,
 
 pub items_more : (vs : List Value) (i : ℕ) (d : Value) → i < length vs → items_view (drop i vs) ≡ item (view (get_or vs i d)) (items_view (drop (i + 1) vs))
 items_more vs i d h = items_view-drop vs i d h
-
-drop_end : {A : Type 0} (xs : List A) (i : ℕ) → length xs ≤ i → drop i xs ≡ []
-drop_end [] zero h = refl
-drop_end [] (suc i) h = refl
-drop_end (x ∷ xs) zero h = absurd (omega arith)
-drop_end (x ∷ xs) (suc i) h = drop_end xs i (omega arith)
 
 pub pair_read : (grain low high x y : ℤ) (d : Data) (two : Data × Data) → pair_of d ≡ Ok two → grains_in grain low high two.0 ≡ Ok x → grains_in grain low high two.1 ≡ Ok y
     → pair_in grain low high d ≡ Ok (record { x = x; y = y })
@@ -27,7 +22,7 @@ pairs_stop grain low high done vs i d why h e = rw (items_more vs i d h, ← e) 
 
 pub pairs_end : (grain low high : ℤ) (done : List Spot) (vs : List Value) (i : ℕ) → length vs ≤ i
     → pairs_behind grain low high done (items_view (drop i vs)) ≡ Ok done
-pairs_end grain low high done vs i h = rw (drop_end vs i h) refl
+pairs_end grain low high done vs i h = rw (drop_all i vs h) refl
 
 pub count_is : (vs : List Value) → count (items_view vs) ≡ length vs
 count_is [] = refl

@@ -1,5 +1,5 @@
 -- What is read as an outline is one.
-use Rattle.std.proofs.Common.{◌≡◌, ℕ, ◌+◌, ◌≤◌, ℤ, pos, neg_ℤ, ◌+ℤ◌, ◌*ℤ◌, ◌≤ℤ◌, ◌<ℤ◌, unsigned_abs, int_le, Bool, true, false, ◌&&◌, cond, nat_le, List, [], ◌∷◌, ◌++◌, length, All, Option, Some, None, Result, Ok, Err, IfOk, refl, sym, ap, ◌∙◌, subst, arith}
+use Rattle.std.proofs.Common.{◌≡◌, ◌+◌, ◌≤◌, ℤ, pos, neg_ℤ, ◌+ℤ◌, ◌*ℤ◌, ◌≤ℤ◌, unsigned_abs, int_le, Bool, true, false, ◌&&◌, cond, nat_le, List, [], ◌∷◌, ◌++◌, length, All, Option, Some, None, Result, Ok, Err, IfOk, refl, sym, ap, ◌∙◌, subst, arith}
 use Rattle.std.proofs.lemmas.Bool.{and_parts}
 use Rattle.std.proofs.lemmas.Bool.Decides.{nat_tests}
 use Rattle.std.proofs.lemmas.Int.{ints, quot-rem}
@@ -13,7 +13,6 @@ use Rattle.seq_model.specs.Bounds.{IsNearSpot}
 use Rattle.seq_model.specs.declared.printer.Spot.{Spot}
 use Rattle.toml.specs.Data.{Data, Items, no_items, item, Members, as_array, get_member}
 use Rattle.printer_text.specs.declared.Key.{Key}
-use Rattle.printer_text.specs.declared.values.Bad.{Bad}
 use Rattle.printer_text.specs.declared.values.Cause.{Cause}
 use Rattle.printer_text.specs.declared.values.Cause.TheVariants as cause
 use Rattle.printer_text.specs.Outlines.{IsGrain, IsOutline}

@@ -1,6 +1,8 @@
 -- The printer of a description.
 --
---   outline_in sizes bar t  the corners that a part lists, or those of its bar
+--   outline_of bar said     the corners that a part lists, or those of its bar
+--   outline_in sizes bar t  the same, read from a table
+--   part_with begun corners the part of these keys with these corners
 --   part_in n sizes t       the part that table n lists, 1 + p for listed part p
 --   parts_behind n sizes done ds    the listed parts from number n on, behind those that are read
 --   top_in t                what the top table says
@@ -11,7 +13,7 @@
 --   ArePartsOf sizes listed kept    the parts that are kept of those that are listed
 --   PrinterOf bytes p       the bytes describe the printer p, which keeps the hulls of its parts
 --   IsRefusedPrinter bytes e    the bytes are refused for this cause
-use Rattle.std.specs.Prelude.{◌≡◌, ◌↔◌, ◌⊎◌, ℕ, ◌+◌, ℤ, Bool, List, [], ◌∷◌, ◌++◌, All, Contains, Option, Some, None, Result, Ok, Err, IsUtf8, option_map}
+use Rattle.std.specs.Prelude.{◌≡◌, ◌↔◌, ◌⊎◌, ℕ, ◌+◌, Bool, List, [], ◌∷◌, ◌++◌, All, Contains, Option, Some, None, Result, Ok, Err, IsUtf8, option_map}
 use Rattle.convex_outline.specs.Corners.{AreCorners, at_spot}
 use Rattle.printer_envelopes.specs.Bands.{first_band, last_band}
 use Rattle.printer_envelopes.specs.Bars.{bar}
@@ -22,7 +24,7 @@ use Rattle.seq_model.specs.Scenes.{Description, description_of}
 use Rattle.seq_model.specs.declared.printer.Part.{Part}
 use Rattle.seq_model.specs.declared.printer.Printer.{Printer}
 use Rattle.seq_model.specs.declared.printer.Spot.{Spot}
-use Rattle.toml.specs.Data.{Data, Items, no_items, item, Members, as_table}
+use Rattle.toml.specs.Data.{Items, no_items, item, Members, as_table}
 use Rattle.toml.specs.Parse.{parse_document}
 use Rattle.printer_text.specs.declared.Key.TheVariants as key
 use Rattle.printer_text.specs.declared.Prn.{Prn}

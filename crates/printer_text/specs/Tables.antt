@@ -1,13 +1,20 @@
 -- How a table is read by its keys: from the first to the last, so that the first refusal stands; then its other keys.
 --
---   Said                    what the keys of a table say
---   nothing, about sizes    before the first key of the top table, and of a part of a printer with these sizes
---   reading rows t said     what the keys of these rows say, after what is said already
---   names rows              the keys of these rows
---   first_other keys t      the first key of the table, in byte order, that is none of these
---   prn_of n bad            the refusal of a key in the top table (n = 0) or in listed part n - 1
+--   Said                         what the keys of a table say
+--   nothing, about sizes         before the first key of the top table, and of a part of a printer with these sizes
+--   bound said b                 a bound, in µm
+--   Says rule, value_by rule     what a value of this kind says, and how it is read
+--   with_key rule k x said       what is said, and that key k says x
+--   reading rows t said          what the keys of these rows say, after what is said already, or the first refusal
+--   said_top, said_first         what the whole top table says, and the first keys of a part
+--   names rows                   the keys of these rows
+--   first_other keys t           the least key of the table, in byte order, that is none of these
+--   next_other keys t            the first that the table lists: the same, since a table lists its keys in byte order
+--   prn_of n bad                 the refusal of a key in the top table (n = 0) or in listed part n - 1
 --   without_others n keys t x    x, where the table has no other key
 use Rattle.std.specs.Prelude.{ℕ, ℤ, pos, ◌*ℤ◌, Bool, false, ◌||◌, List, [], ◌∷◌, Option, Some, None, Result, Ok, Err, if◌then◌else◌, unsigned_abs}
+use Rattle.std.specs.Cmp.Lexicographic.{slice_cmp}
+use Rattle.std.specs.Ordering.{nat_cmp, is_lt}
 use Rattle.std.specs.Str.{bytes_eq}
 use Rattle.seq_model.specs.declared.printer.Spot.{Spot}
 use Rattle.toml.specs.Data.{Data, Items, no_items, Members, no_members, member}
@@ -120,10 +127,19 @@ abbrev pub is_named : List Key → List ℕ → Bool
 is_named [] text = false
 is_named (k ∷ ks) text = bytes_eq (key_name k) text || is_named ks text
 
--- a table of TOML lists its keys in byte order
+-- the first by bytes
+abbrev pub lesser : List ℕ → Option (List ℕ) → List ℕ
+lesser text None = text
+lesser text (Some other) = if is_lt (slice_cmp nat_cmp other text) then other else text
+
 abbrev pub first_other : List Key → Members → Option (List ℕ)
 first_other keys no_members = None
-first_other keys (member text d ms) = if is_named keys text then first_other keys ms else Some text
+first_other keys (member text d ms) = if is_named keys text then first_other keys ms else Some (lesser text (first_other keys ms))
+
+-- the same in the order in which a table lists its keys, which is that of bytes
+abbrev pub next_other : List Key → Members → Option (List ℕ)
+next_other keys no_members = None
+next_other keys (member text d ms) = if is_named keys text then next_other keys ms else Some text
 
 -- ---- refusals
 

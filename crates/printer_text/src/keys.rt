@@ -2,9 +2,12 @@
 
 ghost use Rattle.std.specs.Prelude.{◌≡◌, ◌≤◌, ◌≤ℤ◌, ◌*ℤ◌, ◌⊎◌, pos, Some, None, Ok, Err, IfOk, IfErr, IfSome, IsTrue, option_map, length};
 ghost use Rattle.std.specs.Result.{result_map_both};
+ghost use Rattle.std.specs.List.Sorted.{IsStrictlySortedBy};
+ghost use Rattle.std.specs.Map.{keys_of};
+ghost use Rattle.std.specs.String.{string_cmp};
 ghost use Rattle.toml.specs.Data.{get_member};
 ghost use Rattle.toml.specs.View.{view, table_view, items_view};
-ghost use Rattle.printer_text.specs.Tables.{is_named, first_other};
+ghost use Rattle.printer_text.specs.Tables.{is_named, first_other, next_other};
 ghost use Rattle.printer_text.specs.Outlines.{IsGrain, IsFewGrains};
 ghost use Rattle.printer_text.specs.Values.{key_name, key_at, key_if, integer_in, length_in, grains_in, pair_in, corners_in, tables_in, is_name, name_in, axis_in, StopsKey};
 
@@ -220,9 +223,10 @@ fn is_named(keys: &[Key], text: &str) -> bool
     false
 }
 
-/// The first key of the table, in byte order, that is none of these.
-pub fn first_other<'a>(table: &'a Table, keys: &[Key]) -> Option<&'a str>
-    ensures { option_map (λ text. text.now) result ≡ first_other keys.now (table_view table.now) }
+// The first key that the table lists and that is none of these.
+fn next_other<'a>(table: &'a Table, keys: &[Key]) -> Option<&'a str>
+    ensures value { option_map (λ text. text.now) result ≡ next_other keys.now (table_view table.now) }
+    ensures ascending { IsStrictlySortedBy string_cmp (keys_of table.now.entries) }
 {
     for (text, _) in table.iter() {
         if !is_named(keys, text.as_str()) {
@@ -230,4 +234,11 @@ pub fn first_other<'a>(table: &'a Table, keys: &[Key]) -> Option<&'a str>
         }
     }
     None
+}
+
+/// The first key of the table, in byte order, that is none of these.
+pub fn first_other<'a>(table: &'a Table, keys: &[Key]) -> Option<&'a str>
+    ensures { option_map (λ text. text.now) result ≡ first_other keys.now (table_view table.now) }
+{
+    next_other(table, keys)
 }

@@ -3,7 +3,7 @@
 //! `read_printer` answers the printer of a description exactly where the bytes state one, and each refusal exactly where the
 //! tables of keys give it: the first key that is wrong, in the order in which they are tested, with its first fault.
 //! `specs/Keys` is those tables, `specs/Values` how a value of each kind is read, `specs/Tables` how a table is read by its
-//! keys, and `specs/Printers` what all of it says of a printer. Nothing there knows the code.
+//! keys, and `specs/Printers` what all of it says of a printer. They are written down apart from the code.
 //!
 //! It stands between the bytes of the description and all crates that ask for a printer. The crate toml makes the tree; the
 //! listed corners of a part are read as they are, and the printer keeps the corners of their hull.

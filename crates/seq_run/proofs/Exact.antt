@@ -1,10 +1,11 @@
 -- Files that are told hold one description and one mesh. So a file that is refused can't be used, and a plan that is found shows
 -- that there is one.
 use Rattle.std.proofs.Common.{◌≡◌, ℕ, zero, ◌≤◌, List, [], ◌∷◌, length, Option, Some, Result, Ok, refl, sym, ap, ◌∙◌, subst, arith}
-use Rattle.first_forms.specs.Descriptions.{PrinterOf}
 use Rattle.mesh_checks.specs.Edges.{open_edges}
 use Rattle.mesh_checks.specs.Verdicts.{IsClosedOutward}
 use Rattle.mesh_checks.specs.Volumes.{six_volume}
+use Rattle.printer_text.specs.Printers.{DescribedBy, IsRefusedPrinter}
+use Rattle.printer_text.specs.declared.Prn.{Prn}
 use Rattle.seq_io.specs.Files.{bytes_of, GivesFile, LongerThan}
 use Rattle.seq_io.specs.declared.mem_file.MemFile.{MemFile}
 use Rattle.seq_model.specs.Bands.{band_count}
@@ -24,10 +25,10 @@ use Rattle.seq_run.specs.declared.words.Asked.{Asked}
 use Rattle.seq_run.specs.declared.words.Misworded.{Misworded}
 
 abbrev pub OneDescription : Type 0
-OneDescription = (bytes : List ℕ) (d e : Description) → PrinterOf bytes d → PrinterOf bytes e → d ≡ e
+OneDescription = (bytes : List ℕ) (d e : Description) → DescribedBy bytes d → DescribedBy bytes e → d ≡ e
 
 one_printer : OneDescription → (files : List MemFile) (name : List ℕ) (d e : Description) → IsPrinterFile (Some files) name d → IsPrinterFile (Some files) name e → d ≡ e
-one_printer law files name d e p q = law p.bytes d e p.is (subst (λ b. PrinterOf b e) (q.gives ∙ sym p.gives) q.is)
+one_printer law files name d e p q = law p.bytes d e p.is (subst (λ b. DescribedBy b e) (q.gives ∙ sym p.gives) q.is)
 
 one_mesh_file : (files : List MemFile) (name : List ℕ) (fs gs : List Facet) (m n : ℕ) → IsMeshFile (Some files) name fs m → IsMeshFile (Some files) name gs n → fs ≡ gs
 one_mesh_file files name fs gs m n p q = (one_mesh p.bytes fs gs m n p.is (subst (λ b. MeshOf b gs n) (q.gives ∙ sym p.gives) q.is)).0
@@ -39,7 +40,7 @@ too_long limit files name bytes long gives short =
 
 unfit : OneDescription → (files : List MemFile) (a : Asked) (e d : Description) (c : Cause) (facets : List Facet) (dropped : ℕ) → IsPrinterFile (Some files) a.printer e → IsUnfitFile (Some files) a e.step c → AreUsable (Some files) a d facets dropped → ⊥
 unfit law files a e d Causes.TooLong facets dropped p r u = r.unfit
-unfit law files a e d Causes.NotYet facets dropped p r u = r.unfit
+unfit law files a e d (Causes.Printer why) facets dropped p r u = r.unfit
 unfit law files a e d (Causes.Stl why) facets dropped p r u = r.unfit
 unfit law files a e d (Causes.NotClosed edges volume) facets dropped p r u =
     let same = one_mesh_file files a.mesh r.facets facets r.dropped dropped r.is u.mesh in
@@ -56,18 +57,21 @@ unfit law files a e d (Causes.TooTall bands) facets dropped p r u =
     let count : bands ≡ band_count facets d.step = r.unfit.1.count ∙ ap (λ fs. band_count fs e.step) same ∙ ap (λ (x : Description). band_count facets x.step) one in
     absurd (omega (arith, count, r.unfit.1.many, u.slices.few))
 
-pub refused : OneDescription → (files : List MemFile) (a : Asked) (file : NamedFile) (c : Cause) → Refuses (Some files) a file c → IsUsable (Some files) a → ⊥
-refused law files a file c r x = by file c r x.description x.facets x.dropped x.usable
+abbrev pub NotBoth : Type 0
+NotBoth = (bytes : List ℕ) (d : Description) (why : Prn) → DescribedBy bytes d → IsRefusedPrinter bytes why → ⊥
+
+pub refused : OneDescription → NotBoth → (files : List MemFile) (a : Asked) (file : NamedFile) (c : Cause) → Refuses (Some files) a file c → IsUsable (Some files) a → ⊥
+refused law not_both files a file c r x = by file c r x.description x.facets x.dropped x.usable
   where
     by : (file : NamedFile) (c : Cause) → Refuses (Some files) a file c → (d : Description) (facets : List Facet) (dropped : ℕ) → AreUsable (Some files) a d facets dropped → ⊥
     by NamedFile.Printer Causes.TooLong r d facets dropped u = too_long (limit_of NamedFile.Printer) files a.printer u.printer.bytes r u.printer.gives u.printer.short
-    by NamedFile.Printer Causes.NotYet r d facets dropped u = r.none.no d (subst (λ b. PrinterOf b d) (u.printer.gives ∙ sym r.gives) u.printer.is)
+    by NamedFile.Printer (Causes.Printer e) r d facets dropped u = not_both r.bytes d e (subst (λ b. DescribedBy b d) (u.printer.gives ∙ sym r.gives) u.printer.is) r.refused
     by NamedFile.Printer (Causes.Stl e) r d facets dropped u = r
     by NamedFile.Printer (Causes.NotClosed edges volume) r d facets dropped u = r
     by NamedFile.Printer Causes.Flat r d facets dropped u = r
     by NamedFile.Printer (Causes.TooTall bands) r d facets dropped u = r
     by NamedFile.Mesh Causes.TooLong r d facets dropped u = too_long (limit_of NamedFile.Mesh) files a.mesh u.mesh.bytes r.refused u.mesh.gives u.mesh.short
-    by NamedFile.Mesh Causes.NotYet r d facets dropped u = r.refused
+    by NamedFile.Mesh (Causes.Printer e) r d facets dropped u = r.refused
     by NamedFile.Mesh (Causes.Stl e) r d facets dropped u =
         refused_no_mesh r.refused.bytes e facets dropped r.refused.refused (subst (λ b. MeshOf b facets dropped) (u.mesh.gives ∙ sym r.refused.gives) u.mesh.is)
     by NamedFile.Mesh (Causes.NotClosed edges volume) r d facets dropped u = unfit law files a r.description d (Causes.NotClosed edges volume) facets dropped r.printer r.refused u

@@ -1,7 +1,7 @@
 -- Why a run stops at its files. The printer is looked at first, and the mesh only where the printer can be used.
 --
 --   IsSomePrinter files name          the file of that name states some description
---   IsRefusedPrinter files name c     it is refused for this cause
+--   IsRefusedFile files name c     it is refused for this cause
 --   IsNotClosed strict facets e v     a strict run, and the mesh has e open edges and v for six times its volume
 --   IsUnfitFor task facets step c     the mesh can't be used for this cause
 --   IsRefusedMesh files a d c         the mesh is refused for this cause, by a printer of this description
@@ -9,11 +9,12 @@
 --   Reaches files a file              those before this one can be used
 --   Explains files a stop             what a stop says of the files
 use Rattle.std.specs.Prelude.{◌≡◌, ℕ, ℤ, Bool, true, ◌≤◌, List, [], length, Option}
-use Rattle.first_forms.specs.Descriptions.{IsNoPrinter}
 use Rattle.mesh_checks.specs.Edges.{open_edges}
 use Rattle.mesh_checks.specs.Verdicts.{IsClosedOutward}
 use Rattle.mesh_checks.specs.Volumes.{six_volume}
 use Rattle.mesh_slices.specs.Objects.{IsTooTall}
+use Rattle.printer_text.specs.Printers.{IsRefusedPrinter}
+use Rattle.printer_text.specs.declared.Prn.{Prn}
 use Rattle.seq_io.specs.Files.{GivesFile, LongerThan}
 use Rattle.seq_io.specs.declared.mem_file.MemFile.{MemFile}
 use Rattle.seq_model.specs.Scenes.{Description}
@@ -35,20 +36,20 @@ pub record IsSomePrinter (files : Option (List MemFile)) (name : List ℕ) : Typ
   pub description : Description
   pub is : IsPrinterFile files name description
 
--- bytes within the limit that describe no printer
-pub record IsNoPrinterFile (files : Option (List MemFile)) (name : List ℕ) : Type 0 where
+-- bytes within the limit that the tables of keys refuse
+pub record IsNoPrinter (files : Option (List MemFile)) (name : List ℕ) (e : Prn) : Type 0 where
   pub bytes : List ℕ
   pub gives : GivesFile files name bytes
   pub short : length bytes ≤ limit_of Printer
-  pub none : IsNoPrinter bytes
+  pub refused : IsRefusedPrinter bytes e
 
-abbrev pub IsRefusedPrinter : Option (List MemFile) → List ℕ → Cause → Type 0
-IsRefusedPrinter files name Causes.TooLong = LongerThan (limit_of Printer) files name
-IsRefusedPrinter files name Causes.NotYet = IsNoPrinterFile files name
-IsRefusedPrinter files name (Causes.Stl e) = ⊥
-IsRefusedPrinter files name (Causes.NotClosed edges volume) = ⊥
-IsRefusedPrinter files name Causes.Flat = ⊥
-IsRefusedPrinter files name (Causes.TooTall bands) = ⊥
+abbrev pub IsRefusedFile : Option (List MemFile) → List ℕ → Cause → Type 0
+IsRefusedFile files name Causes.TooLong = LongerThan (limit_of Printer) files name
+IsRefusedFile files name (Causes.Printer e) = IsNoPrinter files name e
+IsRefusedFile files name (Causes.Stl e) = ⊥
+IsRefusedFile files name (Causes.NotClosed edges volume) = ⊥
+IsRefusedFile files name Causes.Flat = ⊥
+IsRefusedFile files name (Causes.TooTall bands) = ⊥
 
 -- bytes within the limit that the grammar of meshes refuses
 pub record IsNoStl (files : Option (List MemFile)) (name : List ℕ) (e : Stl) : Type 0 where
@@ -67,7 +68,7 @@ pub record IsNotClosed (strict : Bool) (facets : List Facet) (edges : ℕ) (volu
 -- it is looked at before it is sliced
 abbrev pub IsUnfitFor : Task → List Facet → ℤ → Cause → Type 0
 IsUnfitFor task facets step Causes.TooLong = ⊥
-IsUnfitFor task facets step Causes.NotYet = ⊥
+IsUnfitFor task facets step (Causes.Printer e) = ⊥
 IsUnfitFor task facets step (Causes.Stl e) = ⊥
 IsUnfitFor task facets step (Causes.NotClosed edges volume) = IsNotClosed (is_strict task) facets edges volume
 IsUnfitFor task facets step Causes.Flat = PassesStrict (is_strict task) facets × (facets ≡ [])
@@ -82,7 +83,7 @@ pub record IsUnfitFile (files : Option (List MemFile)) (a : Asked) (step : ℤ) 
 
 abbrev pub IsRefusedMesh : Option (List MemFile) → Asked → Description → Cause → Type 0
 IsRefusedMesh files a d Causes.TooLong = LongerThan (limit_of Mesh) files a.mesh
-IsRefusedMesh files a d Causes.NotYet = ⊥
+IsRefusedMesh files a d (Causes.Printer e) = ⊥
 IsRefusedMesh files a d (Causes.Stl e) = IsNoStl files a.mesh e
 IsRefusedMesh files a d (Causes.NotClosed edges volume) = IsUnfitFile files a d.step (Causes.NotClosed edges volume)
 IsRefusedMesh files a d Causes.Flat = IsUnfitFile files a d.step Causes.Flat
@@ -95,7 +96,7 @@ pub record IsRefusedBy (files : Option (List MemFile)) (a : Asked) (c : Cause) :
   pub refused : IsRefusedMesh files a description c
 
 abbrev pub Refuses : Option (List MemFile) → Asked → NamedFile → Cause → Type 0
-Refuses files a Printer c = IsRefusedPrinter files a.printer c
+Refuses files a Printer c = IsRefusedFile files a.printer c
 Refuses files a Mesh c = IsRefusedBy files a c
 
 abbrev pub Reaches : Option (List MemFile) → Asked → NamedFile → Type 0

@@ -5,15 +5,15 @@
 --   IsPrinterFile files name d        the file of that name states the description d, within its limit
 --   IsMeshFile files name fs dropped  the file of that name is a mesh of these facets, within its limit
 --   PassesStrict strict facets        where the run is strict, the mesh is closed and looks outward
---   IsPrinterFor d printer            the printer has the numbers and the parts of the description
+--   IsPrinterFor d printer            the printer has the numbers of the description, and its parts with the corners of their hulls
 --   IsPrinterOf files name printer    the file of that name states a description, and the printer is one for it
 --   AreUsable files a d fs dropped    the files that the words name state this description and are this mesh, and it can be used
 use Rattle.std.specs.Prelude.{◌≡◌, ℕ, Bool, true, ◌≤◌, ◌^◌, ◌*◌, List, length, Option}
-use Rattle.first_forms.specs.Descriptions.{PrinterOf}
 use Rattle.mesh_checks.specs.Edges.{open_edges}
 use Rattle.mesh_checks.specs.Verdicts.{IsClosedOutward}
 use Rattle.mesh_checks.specs.Volumes.{six_volume}
 use Rattle.mesh_slices.specs.Objects.{CanBeSliced}
+use Rattle.printer_text.specs.Printers.{DescribedBy, AreKept}
 use Rattle.seq_io.specs.Files.{GivesFile}
 use Rattle.seq_io.specs.declared.mem_file.MemFile.{MemFile}
 use Rattle.seq_model.specs.Scenes.{Description, description_of}
@@ -37,7 +37,7 @@ pub record IsPrinterFile (files : Option (List MemFile)) (name : List ℕ) (d : 
   pub bytes : List ℕ
   pub gives : GivesFile files name bytes
   pub short : length bytes ≤ limit_of NamedFile.Printer
-  pub is : PrinterOf bytes d
+  pub is : DescribedBy bytes d
 
 pub record IsMeshFile (files : Option (List MemFile)) (name : List ℕ) (facets : List Facet) (dropped : ℕ) : Type 0 where
   pub bytes : List ℕ
@@ -50,7 +50,7 @@ pub record PassesStrict (strict : Bool) (facets : List Facet) : Type 0 where
 
 pub record IsPrinterFor (d : Description) (printer : Printer) : Type 0 where
   pub numbers : description_of printer d.parts ≡ d
-  pub parts : d.parts ≡ printer.parts
+  pub parts : AreKept d.parts printer.parts
 
 pub record IsPrinterOf (files : Option (List MemFile)) (name : List ℕ) (printer : Printer) : Type 0 where
   pub description : Description

@@ -1,15 +1,19 @@
 -- The line that goes to `err`, and the status, of refused words and of each stop.
 --
 --   words_line why       the line of refused words
+--   key_text fault key n a fault of this key in the top table (n = 0) or in listed part n - 1
 --   looks_text e v       open edges and six times the volume of a mesh
 --   IsNoteOf name e v d notes   the notes are the line of this mesh where one is due, and else nothing
 --   detail_of file c     the end of the line of a refused file
 --   status_of stop       3 for a failed read, 4 for a refused file, 9 for want of memory
 --   line_of a stop       the line
-use Rattle.std.specs.Prelude.{◌≡◌, ℕ, ℤ, pos, List, [], ◌++◌, codes}
+use Rattle.std.specs.Prelude.{◌≡◌, ℕ, zero, suc, ℤ, pos, List, [], ◌++◌, codes}
 use Rattle.decimal_lengths.specs.declared.Decimal.{Decimal}
 use Rattle.decimal_lengths.specs.declared.Decimal.TheVariants as Decimals
 use Rattle.mesh_checks.specs.Verdicts.{IsDue}
+use Rattle.printer_text.specs.Values.{key_name}
+use Rattle.printer_text.specs.declared.Prn.{Prn}
+use Rattle.printer_text.specs.declared.Prn.TheVariants as Prns
 use Rattle.seq_num.specs.Spelling.{spelling}
 use Rattle.seq_words.specs.declared.command.Opt.{Opt}
 use Rattle.seq_words.specs.declared.command.Words.{Words}
@@ -48,6 +52,27 @@ decimal_text (Decimals.BadByte place) = codes "bad byte at " ++ spelling (pos pl
 decimal_text Decimals.NoDigit = codes "no digit"
 decimal_text Decimals.TooFar = codes "too far"
 
+-- the top table, or a listed part
+abbrev pub table_text : ℕ → List ℕ
+table_text zero = codes "top"
+table_text (suc part) = codes "part " ++ spelling (pos part)
+
+unfoldable pub key_text : List ℕ → List ℕ → ℕ → List ℕ
+key_text fault key table = fault ++ (key ++ (codes " in " ++ table_text table))
+
+-- why bytes describe no printer; want of memory is told by a line of its own
+abbrev pub prn_text : Prn → List ℕ
+prn_text Prns.Toml = codes "not TOML"
+prn_text (Prns.Missing key table) = key_text (codes "missing ") (key_name key) table
+prn_text (Prns.Kind key table) = key_text (codes "kind of ") (key_name key) table
+prn_text (Prns.FloatLength key table) = key_text (codes "float for ") (key_name key) table
+prn_text (Prns.Number key table) = key_text (codes "number of ") (key_name key) table
+prn_text (Prns.Range key table) = key_text (codes "range of ") (key_name key) table
+prn_text (Prns.OffGrain key table) = key_text (codes "off grain ") (key_name key) table
+prn_text (Prns.Unknown key table) = key_text (codes "unknown key ") key table
+prn_text Prns.TooManyParts = codes "more than 12 parts"
+prn_text Prns.NoMemory = []
+
 -- why bytes are no mesh; want of memory is told by a line of its own
 abbrev pub stl_text : Stl → List ℕ
 stl_text Stls.Binary = codes "binary STL"
@@ -76,7 +101,7 @@ pub record IsNoteOf (name : List ℕ) (edges : ℕ) (volume : ℤ) (dropped : �
 abbrev pub detail_of : NamedFile → Cause → List ℕ
 detail_of Printer Causes.TooLong = codes "longer than 1048576 bytes"
 detail_of Mesh Causes.TooLong = codes "longer than 67108864 bytes"
-detail_of file Causes.NotYet = codes "not yet"
+detail_of file (Causes.Printer e) = prn_text e
 detail_of file (Causes.Stl e) = stl_text e
 detail_of file (Causes.NotClosed edges volume) = codes "not a closed outward mesh: " ++ looks_text edges volume
 detail_of file Causes.Flat = codes "no facet is left"

@@ -2,10 +2,9 @@
 --
 --   only xs             the only element of a list
 --   is_strict task      the run refuses meshes that aren't closed or don't look outward
---   request_of command  what a command that is built so far asks for: `arrange` without `--least`, of one mesh, and `slices`
---   is_built command    the command is answered so far
+--   request_of command  what a command asks for, where it is built: `arrange` without `--least`, of one mesh, and `slices`
 --   requested words     what the words ask for, or why they are refused
-use Rattle.std.specs.Prelude.{ℕ, List, [], ◌∷◌, Bool, false, Option, Some, None, is_ok, Result, Ok, Err}
+use Rattle.std.specs.Prelude.{ℕ, List, [], ◌∷◌, Bool, false, Option, Some, None, Result, Ok, Err}
 use Rattle.seq_words.specs.Asked.{asked}
 use Rattle.seq_words.specs.declared.command.Command.{Command}
 use Rattle.seq_words.specs.declared.command.Words.{Words}
@@ -32,9 +31,6 @@ abbrev pub request_of : Command → Result Asked Misworded
 request_of (Command.Arrange false strict budget printer meshes) = request_by (Tasks.Arrange strict) printer (only meshes)
 request_of (Command.Slices printer mesh) = Ok (record { task = Tasks.Slices; printer = printer; mesh = mesh })
 request_of command = Err NotBuilt
-
-abbrev pub is_built : Command → Bool
-is_built command = is_ok (request_of command)
 
 abbrev pub requested_by : Result Command Words → Result Asked Misworded
 requested_by (Ok command) = request_of command

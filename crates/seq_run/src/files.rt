@@ -6,14 +6,14 @@ ghost use Rattle.seq_run.specs.declared.stop.NamedFile.{NamedFile};
 
 use crate::reading::read_file;
 use crate::{Asked, Cause, NamedFile, Stop};
-use first_forms::{Unread, read_description};
+use printer_text::{Prn, read_printer};
 use seq_io::Shelf;
 use seq_model::{Mesh, Printer};
 use std::alloc::Global;
 use stl_text::{Stl, read_mesh};
 
 /// The printer that the words name.
-pub fn read_printer<S: Shelf>(alloc: Global, asked: &Asked, shelf: &mut S) -> Result<Printer, Stop>
+pub fn load_printer<S: Shelf>(alloc: Global, asked: &Asked, shelf: &mut S) -> Result<Printer, Stop>
     ensures is { IfOk result (IsPrinterOf (S.files shelf.old) asked.now.printer) }
     ensures why { IfErr result (Explains (S.files shelf.old) asked.now) }
     ensures fault { (file : NamedFile) → IsErrOf result (Stop.Read file) → Rose (S.faults shelf.old) (S.faults shelf.new) }
@@ -23,15 +23,15 @@ pub fn read_printer<S: Shelf>(alloc: Global, asked: &Asked, shelf: &mut S) -> Re
     ensures later { S.faults shelf.old ≤ S.faults shelf.new }
 {
     let bytes = read_file(alloc, shelf, &asked.printer, NamedFile::Printer)?;
-    match read_description(alloc, &bytes) {
+    match read_printer(alloc, &bytes) {
         Ok(printer) => Ok(printer),
-        Err(Unread::NotYet) => Err(Stop::Input(NamedFile::Printer, Cause::NotYet)),
-        Err(Unread::NoMemory) => Err(Stop::Memory),
+        Err(Prn::NoMemory) => Err(Stop::Memory),
+        Err(e) => Err(Stop::Input(NamedFile::Printer, Cause::Printer(e))),
     }
 }
 
 /// The mesh that the words name, for a printer that can be used.
-pub fn read_solid<S: Shelf>(
+pub fn load_mesh<S: Shelf>(
     alloc: Global,
     asked: &Asked,
     printer: &Printer,

@@ -9,7 +9,7 @@ ghost use Rattle.seq_run.specs.declared.stop.Cause.{Cause};
 ghost use Rattle.seq_run.specs.declared.stop.NamedFile.{NamedFile};
 ghost use Rattle.seq_run.specs.declared.words.Asked.{Asked};
 
-use first_forms::one_description;
+use printer_text::one_description;
 
 /// Files of which one is refused can't both be used.
 pub fn refused_files_are_unusable()

@@ -1,6 +1,6 @@
 ghost use Rattle.std.specs.Prelude.{◌≡◌, ◌++◌, pos, codes, IfOk, OnOk};
 ghost use Rattle.seq_num.specs.Spelling.{spelling};
-ghost use Rattle.seq_run.specs.Messages.{IsNoteOf, decimal_text, detail_of, dropped_text, input_line, line_of, looks_text, note_line, read_line, status_of, stl_text, volume_text, words_line};
+ghost use Rattle.seq_run.specs.Messages.{IsNoteOf, decimal_text, detail_of, dropped_text, input_line, key_text, line_of, looks_text, note_line, prn_text, read_line, status_of, stl_text, table_text, volume_text, words_line};
 ghost use Rattle.seq_run.specs.Files.{name_in};
 
 use crate::texts::put_number;
@@ -8,13 +8,14 @@ use crate::{Asked, Cause, Misworded, NamedFile, Stop};
 use decimal_lengths::Decimal;
 use mesh_checks::Notes;
 use owned_lists::{Items, Text};
+use printer_text::{Prn, key_text as spelled};
 use seq_words::{Opt, Words};
 use std::alloc::{AllocError, Global};
 use stl_text::{Stl, text_of};
 
 /// The status that a stop at the files ends with.
-pub fn status_of(stop: Stop) -> u8
-    ensures { result ≡ status_of stop }
+pub fn status_of(stop: &Stop) -> u8
+    ensures { result ≡ status_of stop.now }
 {
     match stop {
         Stop::Read(_) => 3,
@@ -92,6 +93,46 @@ fn put_volume(to: &mut Vec<u8>, six_volume: i128) -> Result<(), AllocError>
     put_number(to, b", six volume ", six_volume)
 }
 
+// Appends the table of a description: 0 is the top one, and 1 + p that of listed part p.
+fn put_table(to: &mut Vec<u8>, table: u32) -> Result<(), AllocError>
+    ensures { OnOk result (to.new.items ≡ to.old.items ++ table_text table) }
+{
+    if table == 0 {
+        to.extend_from_slice(b"top")
+    } else {
+        put_number(to, b"part ", i128::from(table - 1))
+    }
+}
+
+// Appends what is wrong with a key of a table.
+#[tactic(auto, unfolding(crate::specs::Messages::key_text))]
+fn put_key(to: &mut Vec<u8>, fault: &[u8], key: &str, table: u32) -> Result<(), AllocError>
+    ensures { OnOk result (to.new.items ≡ to.old.items ++ key_text fault.now key.now table) }
+{
+    to.extend_from_slice(fault)?;
+    to.extend_from_slice(key.as_bytes())?;
+    to.extend_from_slice(b" in ")?;
+    put_table(to, table)
+}
+
+// Appends why bytes describe no printer.
+fn put_prn(to: &mut Vec<u8>, e: &Prn) -> Result<(), AllocError>
+    ensures { OnOk result (to.new.items ≡ to.old.items ++ prn_text e.now) }
+{
+    match e {
+        Prn::Toml => to.extend_from_slice(b"not TOML"),
+        Prn::Missing(key, table) => put_key(to, b"missing ", spelled(*key), *table),
+        Prn::Kind(key, table) => put_key(to, b"kind of ", spelled(*key), *table),
+        Prn::FloatLength(key, table) => put_key(to, b"float for ", spelled(*key), *table),
+        Prn::Number(key, table) => put_key(to, b"number of ", spelled(*key), *table),
+        Prn::Range(key, table) => put_key(to, b"range of ", spelled(*key), *table),
+        Prn::OffGrain(key, table) => put_key(to, b"off grain ", spelled(*key), *table),
+        Prn::Unknown(key, table) => put_key(to, b"unknown key ", key.as_str(), *table),
+        Prn::TooManyParts => to.extend_from_slice(b"more than 12 parts"),
+        Prn::NoMemory => Ok(()),
+    }
+}
+
 // Appends open edges and six times the volume.
 #[tactic(auto, unfolding(crate::specs::Messages::looks_text))]
 fn put_looks(to: &mut Vec<u8>, open_edges: u64, six_volume: i128) -> Result<(), AllocError>
@@ -150,19 +191,19 @@ fn too_long(file: NamedFile) -> &'static [u8]
 }
 
 // Appends why a file is refused.
-fn put_detail(to: &mut Vec<u8>, file: NamedFile, cause: Cause) -> Result<(), AllocError>
-    ensures { OnOk result (to.new.items ≡ to.old.items ++ detail_of file cause) }
+fn put_detail(to: &mut Vec<u8>, file: NamedFile, cause: &Cause) -> Result<(), AllocError>
+    ensures { OnOk result (to.new.items ≡ to.old.items ++ detail_of file cause.now) }
 {
     match cause {
         Cause::TooLong => to.extend_from_slice(too_long(file)),
-        Cause::NotYet => to.extend_from_slice(b"not yet"),
-        Cause::Stl(e) => put_stl(to, e),
+        Cause::Printer(e) => put_prn(to, e),
+        Cause::Stl(e) => put_stl(to, *e),
         Cause::NotClosed {
             open_edges,
             six_volume,
-        } => put_not_closed(to, open_edges, six_volume),
+        } => put_not_closed(to, *open_edges, *six_volume),
         Cause::Flat => to.extend_from_slice(b"no facet is left"),
-        Cause::TooTall(bands) => put_number(to, b"more than 200 bands: ", i128::from(bands)),
+        Cause::TooTall(bands) => put_number(to, b"more than 200 bands: ", i128::from(*bands)),
     }
 }
 
@@ -188,9 +229,9 @@ fn input_line(
     alloc: Global,
     name: &str,
     file: NamedFile,
-    cause: Cause,
+    cause: &Cause,
 ) -> Result<Vec<u8>, AllocError>
-    ensures { IfOk result (λ line. line.items ≡ input_line name.now file cause) }
+    ensures { IfOk result (λ line. line.items ≡ input_line name.now file cause.now) }
 {
     let mut line = Vec::from_slice(alloc, b"input: ")?;
     line.extend_from_slice(name.as_bytes())?;
@@ -201,12 +242,14 @@ fn input_line(
 }
 
 /// The line of a stop at the files.
-pub fn line_of(alloc: Global, asked: &Asked, stop: Stop) -> Result<Vec<u8>, AllocError>
-    ensures { IfOk result (λ line. line.items ≡ line_of asked.now stop) }
+pub fn line_of(alloc: Global, asked: &Asked, stop: &Stop) -> Result<Vec<u8>, AllocError>
+    ensures { IfOk result (λ line. line.items ≡ line_of asked.now stop.now) }
 {
     match stop {
-        Stop::Read(file) => read_line(alloc, name_in(asked, file).as_str()),
-        Stop::Input(file, cause) => input_line(alloc, name_in(asked, file).as_str(), file, cause),
+        Stop::Read(file) => read_line(alloc, name_in(asked, *file).as_str()),
+        Stop::Input(file, cause) => {
+            input_line(alloc, name_in(asked, *file).as_str(), *file, cause)
+        }
         Stop::Memory => Vec::from_slice(alloc, b"memory\n"),
     }
 }

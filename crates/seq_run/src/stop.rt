@@ -1,3 +1,4 @@
+use printer_text::Prn;
 use stl_text::Stl;
 
 /// A file that the words name.
@@ -8,12 +9,11 @@ pub enum NamedFile {
 }
 
 /// Why a file is refused for its bytes.
-#[derive(Clone, Copy, PartialEq, Eq, Debug)]
+#[derive(Debug, Drop)]
 pub enum Cause {
     /// It is over its limit.
     TooLong,
-    /// A description of a form that isn't read yet.
-    NotYet,
+    Printer(Prn),
     Stl(Stl),
     /// A strict run, and edges are open or the volume isn't positive.
     NotClosed { open_edges: u64, six_volume: i128 },
@@ -24,7 +24,7 @@ pub enum Cause {
 }
 
 /// Why a run stops at its files.
-#[derive(Clone, Copy, PartialEq, Eq, Debug)]
+#[derive(Debug, Drop)]
 pub enum Stop {
     Read(NamedFile),
     Input(NamedFile, Cause),

@@ -30,7 +30,7 @@ pub fn tell<E: Sink>(alloc: Global, asked: &Asked, stop: Stop, err: &mut E) -> R
     ensures part { IfErr result (λ told. TookPart (E.taken err.old) (E.taken err.new) (line_of asked.now told)) }
     ensures cause { HasCause (E.faults err.old) (E.faults err.new) result }
 {
-    match line_of(alloc, asked, stop) {
+    match line_of(alloc, asked, &stop) {
         Ok(line) => send(err, &line, stop),
         Err(_) => send(err, b"memory\n", Stop::Memory),
     }

@@ -12,7 +12,7 @@ ghost use Rattle.seq_run.specs.declared.stop.NamedFile.{NamedFile};
 ghost use Rattle.seq_words.specs.Usages.{texts};
 ghost use Rattle.seq_words.specs.declared.command.Words.{Words};
 
-use crate::files::{read_printer, read_solid};
+use crate::files::{load_mesh, load_printer};
 use crate::laws::{a_found_plan_is_one, refused_files_are_unusable};
 use crate::messages::{status_of, words_line};
 use crate::planning::{Answer, arrange_mesh, slice_mesh};
@@ -32,8 +32,8 @@ fn work<S: Shelf>(alloc: Global, asked: &Asked, shelf: &mut S) -> Result<Answer,
     ensures broken { (file : NamedFile) → IsErrOf result (Stop.Read file) → IsTrue (S.broken shelf.new) }
     ensures named { (file : NamedFile) → IsErrOf result (Stop.Read file) → S.named shelf.new ≡ Some (name_in asked.now file) }
 {
-    let printer = read_printer(alloc, asked, shelf)?;
-    let mesh = read_solid(alloc, asked, &printer, shelf)?;
+    let printer = load_printer(alloc, asked, shelf)?;
+    let mesh = load_mesh(alloc, asked, &printer, shelf)?;
     match asked.task {
         Task::Arrange { strict } => arrange_mesh(alloc, strict, &asked.mesh, &mesh, printer),
         Task::Slices => slice_mesh(alloc, &asked.mesh, &mesh, &printer),
@@ -84,7 +84,7 @@ fn answer<S: Shelf, O: Sink, E: Sink>(
             Err(_) => 8,
         },
         Err(stop) => match tell(alloc, asked, stop, err) {
-            Ok(told) => status_of(told),
+            Ok(told) => status_of(&told),
             Err(_) => 8,
         },
     }
@@ -102,12 +102,11 @@ pub fn run<S: Shelf, O: Sink, E: Sink>(
 ) -> u8
     ensures statuses { (result ≡ 0) ⊎ (result ≡ 1) ⊎ (result ≡ 2) ⊎ (result ≡ 3) ⊎ (result ≡ 4) ⊎ (result ≡ 8) ⊎ (result ≡ 9) }
 
-    // 0: `err` took the notes, and then `out` the whole text of a plan that is valid on the plate.
+    // 0: `err` took the notes, and then `out` the whole text of a plan that is valid on the plate, or of the object's bands.
     ensures found { result ≡ 0 → Asks (texts words.now.items) (λ a. IsAnswered 0 (S.files shelf.old) a (E.taken err.old) (E.taken err.new) (O.taken out.old) (O.taken out.new)) }
 
     // 1: exactly where no plan is valid; `err` took the notes, and then `out` the text that says so, with a certificate.
     ensures none { result ≡ 1 → Asks (texts words.now.items) (λ a. IsAnswered 1 (S.files shelf.old) a (E.taken err.old) (E.taken err.new) (O.taken out.old) (O.taken out.new)) }
-
     ensures none_always { (files : List MemFile) → S.files shelf.old ≡ Some files → Asks (texts words.now.items) (HasNoPlan (Some files)) → (result ≡ 1) ⊎ (result ≡ 3) ⊎ (result ≡ 8) ⊎ (result ≡ 9) }
 
     // 2: exactly where the words are refused, or what they ask for isn't built; no file is started.
@@ -123,7 +122,6 @@ pub fn run<S: Shelf, O: Sink, E: Sink>(
     // 4: exactly where the first file in word order that can't be used is refused for its bytes.
     ensures input { result ≡ 4 → Asks (texts words.now.items) (λ a. IsRefusedInput (S.files shelf.old) a (E.taken err.old) (E.taken err.new)) }
     ensures input_always { (Asks (texts words.now.items) (IsUsable (S.files shelf.old)) → ⊥) → (result ≡ 2) ⊎ (result ≡ 3) ⊎ (result ≡ 4) ⊎ (result ≡ 8) ⊎ (result ≡ 9) }
-
     ensures input_only { (files : List MemFile) → S.files shelf.old ≡ Some files → result ≡ 4 → Asks (texts words.now.items) (IsUsable (Some files)) → ⊥ }
 
     // 8: only where a sink failed within its text; `out` is written after `err`.

@@ -1,5 +1,5 @@
 use crate::meshes::{block, blocks, cube_with_a_dropped_facet, exported_cube, open_cube};
-use crate::runs::{PLATE, run_in_memory};
+use crate::runs::{PLAN, PLATE, run_in_memory};
 use seq_io::{MemFile, MemShelf, ReadAll, Shelf, read_all};
 use std::test::Fail;
 
@@ -8,11 +8,6 @@ const SMALL_PLATE: &[u8] =
 
 const FLAT_PLATE: &[u8] =
     b"format = 1\ngrain = 1\nplate = [100, 21]\nstep = 10\nmargin = 1\ngrid = 50\n";
-
-const PARTS: &[u8] =
-    b"format = 1\ngrain = 1\nplate = [100, 100]\nstep = 10\nmargin = 1\ngrid = 100\n\n[[part]]\nname = \"nozzle\"\nfrom = 0\ncorners = [[-2, -2], [2, -2], [2, 2], [-2, 2]]\n";
-
-const PLAN: &[u8] = b"seqplan 1\nstate found\ngrid 100\nextent 100\nscale 1\nplace 0 1 1\n";
 
 #[test]
 fn one_mesh_has_a_plan_or_a_certificate(rt: HostRuntime) -> Result<(), Fail> {
@@ -151,8 +146,6 @@ fn a_file_that_can_not_be_used_is_told_in_one_line(rt: HostRuntime) -> Result<()
         (PLATE, binary, b"input: a.stl: binary STL\n".as_slice()),
         // a height of 2,010 mm in bands of 10 mm
         (PLATE, block(alloc, 20, 20, 2_010)?, b"input: a.stl: more than 200 bands: 201\n"),
-        // with parts the description is of another form
-        (PARTS, block(alloc, 20, 20, 20)?, b"input: p0.toml: not yet\n"),
     ]?;
     for (mesh, line) in &MESHES {
         cases.push((PLATE, Vec::from_slice(alloc, mesh)?, line))?;

@@ -7,6 +7,10 @@ use std::test::Fail;
 pub(crate) const PLATE: &[u8] =
     b"format = 1\ngrain = 1\nplate = [100, 100]\nstep = 10\nmargin = 1\ngrid = 100\n";
 
+/// The plan of a cube of 20 mm there.
+pub(crate) const PLAN: &[u8] =
+    b"seqplan 1\nstate found\ngrid 100\nextent 100\nscale 1\nplace 0 1 1\n";
+
 #[derive(Drop)]
 pub(crate) struct Outcome {
     pub(crate) status: u8,

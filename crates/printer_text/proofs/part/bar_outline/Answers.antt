@@ -1,7 +1,5 @@
-use Rattle.std.proofs.Common.{◌≡◌, rules, FitsSigned, to_z-of_z, sym, subst, List}
-use Rattle.std.specs.Int.{w64}
+use Rattle.std.proofs.Common.{◌≡◌, rules}
 use Rattle.printer_envelopes.specs.Bars.{bar}
-use Rattle.printer_text.specs.Outlines.{IsOutline}
 use Rattle.printer_text.proofs.OutlineLaws.{bar_near}
 use Rattle.printer_text.proofs.part.bar_outline.Goals as goal
 

@@ -1,7 +1,6 @@
 use Rattle.std.proofs.Common.{◌≡◌, pos, neg_ℤ, ◌*ℤ◌, Ok, IfOk, rules, FitsSigned, to_z-of_z}
 use Rattle.std.specs.Int.{w64}
 use Rattle.printer_text.specs.declared.Key.TheVariants as key
-use Rattle.printer_text.specs.Outlines.{IsOutline}
 use Rattle.printer_text.specs.Values.{key_at, corners_in}
 use Rattle.toml.specs.View.{table_view}
 use Rattle.printer_text.proofs.OutlineLaws.{corners_near, if_ok}

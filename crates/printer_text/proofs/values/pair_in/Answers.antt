@@ -1,4 +1,4 @@
-use Rattle.std.proofs.Common.{◌≡◌, sym, rules, FitsSigned, to_z-of_z}
+use Rattle.std.proofs.Common.{sym, rules, FitsSigned, to_z-of_z}
 use Rattle.std.specs.Int.{w64}
 use Rattle.toml.specs.View.{view}
 use Rattle.printer_text.proofs.ItemLaws.{pair_read}

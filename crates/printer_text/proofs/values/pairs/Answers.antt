@@ -1,4 +1,4 @@
-use Rattle.std.proofs.Common.{◌≡◌, ◌∙◌, ◌<◌, ◌≤◌, [], length, drop, sym, refl, rules, arith, FitsSigned, to_z-of_z}
+use Rattle.std.proofs.Common.{◌≡◌, ◌∙◌, [], drop, sym, rules, arith, FitsSigned, to_z-of_z}
 use Rattle.std.specs.Int.{w64}
 use Rattle.toml.specs.View.{items_view}
 use Rattle.printer_text.specs.Values.{pairs_behind}

@@ -17,10 +17,10 @@ returns-in-Ok-clause-none_always g c = λ told is asks.
     let refused_law = c.refused_files_are_unusable.ensures in
     let e = c.answer.ensures in
     elim e.statuses [
-      inl zero ↦ (let x = e.found zero in absurd (not_found found_law files told _ asked asks.asked x.notes x.text is accepted asks.accepted x.answers asks.so))
-    | inr (inl one) ↦ inl one
-    | inr (inr (inl three)) ↦ inr (inl three)
-    | inr (inr (inr (inl four))) ↦ (let x = e.input four in absurd (not_refused refused_law files told _ asked asks.asked x.file x.cause is accepted asks.accepted x.refused asks.so))
-    | inr (inr (inr (inr (inl eight)))) ↦ inr (inr (inl eight))
-    | inr (inr (inr (inr (inr nine)))) ↦ inr (inr (inr nine))
+      | inl zero ↦ (let x = e.found zero in absurd (not_found found_law files told _ asked asks.asked x.notes x.text is accepted asks.accepted x.answers asks.so))
+      | inr (inl one) ↦ inl one
+      | inr (inr (inl three)) ↦ inr (inl three)
+      | inr (inr (inr (inl four))) ↦ (let x = e.input four in absurd (not_refused refused_law files told _ asked asks.asked x.file x.cause is accepted asks.accepted x.refused asks.so))
+      | inr (inr (inr (inr (inl eight)))) ↦ inr (inr (inl eight))
+      | inr (inr (inr (inr (inr nine)))) ↦ inr (inr (inr nine))
     ])
