@@ -6,6 +6,8 @@
 --   PrintsNone d name fs text  the text says that there is no plan, and its certificate refutes the whole plate
 --   PrintsSlices d name fs text    the text is that of the object's bands and zones
 --   Prints task d name fs s text   the text is one that the task prints with status s: 1 where there is no plan, else 0
+--   PrintsFor, ArrangesJob     the same whatever description the printer is for, whatever mesh the job is of
+--   IsNoteFor task name fs n notes     the notes are those due for the mesh, where the task notes anything
 --   Answers files a s notes text   the files can be used, the text is one of status s for them, and these are the notes
 use Rattle.std.specs.Prelude.{◌≡◌, ℕ, Bool, zero, suc, List, [], ◌∷◌, Option}
 use Rattle.lone_object.specs.Lone.{zero_place, lone_plan, span_tree, IsFirstNegative}

@@ -1,13 +1,18 @@
 -- Why a run stops at its files. The printer is looked at first, and the mesh only where the printer can be used.
 --
 --   IsSomePrinter files name          the file of that name states some description
---   IsRefusedFile files name c     it is refused for this cause
+--   IsNoPrinter files name e          its bytes are within the limit, and no description for this cause
+--   IsRefusedFile files name c        the printer's file is refused for this cause
+--   IsNoStl files name e              the bytes of the file are within the limit, and no mesh for this cause
 --   IsNotClosed strict facets e v     a strict run, and the mesh has e open edges and v for six times its volume
 --   IsUnfitFor task facets step c     the mesh can't be used for this cause
+--   IsUnfitFile files a step c        the mesh's file is a mesh that can't be used for this cause
 --   IsRefusedMesh files a d c         the mesh is refused for this cause, by a printer of this description
+--   IsRefusedBy files a c             the mesh is refused for this cause, by a printer that can be used
 --   Refuses files a file c            the first file in word order that can't be used is this one, for this cause
 --   Reaches files a file              those before this one can be used
 --   Explains files a stop             what a stop says of the files
+--   IsUnlooked, IsUnsliced, IsUnfit   what a stop of looking at a mesh, of slicing it, and of all work on it says
 use Rattle.std.specs.Prelude.{◌≡◌, ℕ, ℤ, Bool, true, ◌≤◌, List, [], length, Option}
 use Rattle.mesh_checks.specs.Edges.{open_edges}
 use Rattle.mesh_checks.specs.Verdicts.{IsClosedOutward}

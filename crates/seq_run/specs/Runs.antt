@@ -10,6 +10,7 @@
 --   HasNoPlan files a                  they can, and no plan is valid for them
 --   WordsBroke, ErrBroke, OutBroke     status 8: a sink failed within the line of refused words; within the line of a stop or
 --                                      the notes of an answer; within its text
+--   LineBroke, NotesBroke              the two cases of ErrBroke
 use Rattle.std.specs.Prelude.{◌≡◌, ◌⊎◌, ℕ, Bool, List, [], ◌∷◌, Option, Some, Ok, Err}
 use Rattle.seq_io.specs.Counts.{Rose}
 use Rattle.seq_io.specs.Taken.{Grew, TookPart}

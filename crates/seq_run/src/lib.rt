@@ -6,7 +6,7 @@
 //! that refutes the whole plate. Every other status has its cause, and all that `err` takes is stated to the byte.
 //!
 //! `specs/Runs` says what each status promises, `specs/Answers` what a text does, `specs/Causes` when a file is refused,
-//! `specs/Messages` the lines. All other crates but the program stand below it.
+//! `specs/Messages` the lines. It stands on the crates that read, check, slice and write, and below the program.
 #![tactic(auto)]
 
 mod files;
@@ -21,6 +21,7 @@ mod texts;
 mod top;
 mod words;
 
+// The types are exported because the clauses of `run` name them.
 pub use stop::{Cause, NamedFile, Stop};
 pub use top::run;
 pub use words::{Asked, Misworded, Task};
