@@ -148,12 +148,12 @@ tall_first = record {
   };
 }
 
-low_spots : (b : ℕ) → b < 2 → uneven.spots 1 b ≡ cube
+pub low_spots : (b : ℕ) → b < 2 → uneven.spots 1 b ≡ cube
 low_spots zero k = refl
 low_spots (suc zero) k = refl
 low_spots (suc (suc b)) k = absurd (omega (arith, k))
 
-tall_spots : (b : ℕ) → b < 4 → uneven.spots 0 b ≡ cube
+pub tall_spots : (b : ℕ) → b < 4 → uneven.spots 0 b ≡ cube
 tall_spots zero k = refl
 tall_spots (suc zero) k = refl
 tall_spots (suc (suc zero)) k = refl

@@ -1,5 +1,5 @@
 -- Cycles of paths that are written out, and lists that are none.
-use Rattle.std.proofs.Common.{◌≡◌, ℕ, zero, suc, ◌<◌, ◌≤◌, List, [], ◌∷◌, refl, sym, subst, ap, arith, lit<, lit≤, inl, inr, Contains}
+use Rattle.std.proofs.Common.{ℕ, [], ◌∷◌, refl, ap, arith, lit<, lit≤, inl, inr, Contains}
 use Rattle.integer_laws.specs.Members.{In, In-from_contains}
 use Rattle.model_examples.specs.Certificates.{before}
 use Rattle.model_examples.specs.Jobs.{two_cubes, three_cubes}

@@ -1,5 +1,5 @@
 -- Each contact of two cubes has four sides, so that 64 nodes are enough, and nothing else is the number of them.
-use Rattle.std.proofs.Common.{◌≡◌, ℕ, zero, suc, ◌<◌, ◌≤◌, List, [], ◌∷◌, length, refl, ap, sym, subst, ◌∙◌, ◌↔◌, ◌⊎◌, arith, inl, inr, lit<, lit≤}
+use Rattle.std.proofs.Common.{◌≡◌, ℕ, zero, suc, ◌<◌, ◌≤◌, length, refl, ap, sym, subst, ◌∙◌, ◌↔◌, ◌⊎◌, arith, inl, inr, lit≤}
 use lib.Dec.{T}
 use Rattle.model_examples.specs.Certificates.{four_sides}
 use Rattle.model_examples.specs.Cubes.{cube, first_contact}
@@ -54,7 +54,7 @@ at_most_four c n h =
 first_has_four : HasSides two_cubes first_contact 4
 first_has_four = record { is = is_first; dirs = four_sides; sides = cube_sides; many = refl }
 
-four_are_most : IsMostSides two_cubes 4
+pub four_are_most : IsMostSides two_cubes 4
 four_are_most = record { at_least = lit≤ tt; most = at_most_four; reached = inr (first_contact, first_has_four) }
 
 pub most_is_four : (s : ℕ) → IsMostSides two_cubes s → s ≡ 4

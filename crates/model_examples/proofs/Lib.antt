@@ -4,8 +4,10 @@ pub mod CubeLaws
 pub mod CycleLaws
 pub mod FullLaws
 pub mod OneList
+pub mod OrderLaws
 pub mod PlanLaws
 pub mod SideLaws
 pub mod SplitLaws
 pub mod TreeLaws
 pub mod WalkLaws
+pub mod WideLaws

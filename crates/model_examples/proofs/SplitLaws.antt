@@ -1,14 +1,21 @@
--- The root of a search of two cubes, which is spent with one node.
-use Rattle.std.proofs.Common.{ℕ, [], ◌∷◌, refl, arith, pos, ◌≤ℤ◌, lit<, lit≤, inl}
+-- The root of a search of two cubes, which is spent with one node, and how many nodes a spent tree has.
+use Rattle.std.proofs.Common.{◌≡◌, ℕ, List, [], ◌∷◌, length, refl, arith, pos, ◌≤◌, ◌≤ℤ◌, lit<, lit≤, inl}
 use lib.Signed.{le_z_yes}
-use Rattle.model_examples.specs.Cubes.{at, cube, nozzle}
+use Rattle.model_examples.specs.Certificates.{four_sides}
+use Rattle.model_examples.specs.Cubes.{at, cube, nozzle, first_contact}
 use Rattle.model_examples.specs.Deciding.{all_of}
 use Rattle.model_examples.specs.Jobs.{two_cubes, nozzle_part}
+use Rattle.model_examples.proofs.FullLaws.{four_are_most, most_is_four}
+use Rattle.model_examples.proofs.SideLaws.{cube_sides}
+use Rattle.model_examples.proofs.TreeLaws.{is_first}
 use Rattle.seq_model.specs.Budgets.{IsMostSides}
 use Rattle.seq_model.specs.Outlines.{Inner}
 use Rattle.seq_model.specs.Scenes.{Overlap}
-use Rattle.seq_model.specs.Splits.{Values, IsOn, CollidesAt, Earned, SpentTree}
+use Rattle.seq_model.specs.Splits.{Values, IsOn, CollidesAt, ContactCollidesAt, Earned, SpentTree}
 use Rattle.seq_model.specs.Systems.{Row, system, row_value}
+use Rattle.seq_model.specs.declared.tree.Choice.{Choice}
+use Rattle.seq_model.specs.declared.tree.Choice.TheVariants as Choices
+use Rattle.seq_model.specs.declared.tree.Node.{Node}
 use Rattle.seq_model.specs.declared.tree.Node.TheVariants as Nodes
 
 abbrev at_zero : Values
@@ -59,3 +66,33 @@ spent s most = record {
   path_is = ([], refl);
   more = record { node = Nodes.Order 0 1; split = tt; sound = (lit< tt, lit< tt); paths = _; children = refl; earned = root_is_earned };
 }
+
+-- ---- the order and its two children, with nothing of a budget left
+abbrev first_ordered : List Choice
+first_ordered = Choices.Before 0 1 ∷ []
+
+on_ordered : IsOn two_cubes 100 first_ordered at_zero
+on_ordered = record { meets = record { positive = on_path.meets.positive; coordinates = on_path.meets.coordinates; each = on_path.meets.each }; many = refl }
+
+contact_collides : ContactCollidesAt two_cubes 100 at_zero first_contact
+contact_collides = (is_first, together)
+
+pub three_over : SpentTree two_cubes 100 0 (Nodes.Order 0 1 ∷ Nodes.Pending ∷ Nodes.Pending ∷ [])
+three_over = record {
+  s = 4;
+  most = four_are_most;
+  tree = record { tree = (((lit< tt, lit< tt), root_is_earned), _, refl, ((tt, tt), [], refl, ((tt, tt), [], refl, refl))); pending = (1, lit< tt, refl) };
+  spent = lit≤ tt;
+  just = lit< tt;
+  leaf = 1;
+  leaf_is = refl;
+  path = first_ordered;
+  path_is = ((Choices.Before 1 0 ∷ []) ∷ [], (tt, _, refl, refl));
+  more = record { node = Nodes.Side first_contact 4; split = tt; sound = (is_first, (0, lit< tt, refl)); paths = _; children = (four_sides, cube_sides, refl, refl); earned = record { at = at_zero; on = on_ordered; here = contact_collides } };
+}
+
+pub four_over : (nodes : List Node) → length nodes ≡ 4 → SpentTree two_cubes 100 0 nodes → ⊥
+four_over nodes many t = let four = most_is_four t.s t.most in let few = t.just in absurd (omega (arith, four, few, many))
+
+pub one_under : SpentTree two_cubes 100 2 (Nodes.Pending ∷ []) → ⊥
+one_under t = let some : 2 ≤ 1 = t.spent in absurd (omega (arith, some))

@@ -2,9 +2,11 @@
 //!
 //! Each call does nothing, and its contract says what the definitions of `seq_model` and `row_walks` mean at numbers that
 //! were worked out by hand: which points are inner, when two cubes collide, the system of a path, a tree that refutes an
-//! extent, a walk of bases. `specs/Cubes.antt` and `specs/Jobs.antt` have the cubes, the wedges, their printer and their jobs.
+//! extent, a walk of bases. `specs/Cubes.antt` and `specs/Jobs.antt` have the cubes, the wedges, their printer and their jobs, and
+//! `specs/Uneven.antt` a job in which nothing is symmetric.
 //!
-//! Nothing stands on this crate. It is here so that the definitions can be held against worked numbers.
+//! Nothing stands on this crate. A definition that says something else at one of these numbers is refused here; one that differs
+//! elsewhere alone isn't, so the definitions are to be read all the same.
 #![tactic(auto)]
 
 pub mod bands;

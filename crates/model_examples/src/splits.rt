@@ -1,15 +1,16 @@
 //! Places, plans, and what a search may do first.
 
-ghost use Rattle.std.specs.Prelude.{◌≡◌, ℕ, [], ◌∷◌, pos};
+ghost use Rattle.std.specs.Prelude.{◌≡◌, ℕ, List, [], ◌∷◌, pos, length};
 ghost use Rattle.seq_model.specs.Budgets.{IsMostSides};
 ghost use Rattle.seq_model.specs.Jobs.{scene_of_job};
 ghost use Rattle.seq_model.specs.Scenes.{Valid};
 ghost use Rattle.seq_model.specs.Splits.{Earned, SpentTree};
 ghost use Rattle.seq_model.specs.Systems.{place_of};
+ghost use Rattle.seq_model.specs.declared.tree.Node.{Node};
 ghost use Rattle.seq_model.specs.declared.tree.Node.TheVariants as Nodes;
 ghost use Rattle.model_examples.specs.Cubes.{at};
-ghost use Rattle.model_examples.specs.Jobs.{two_cubes};
-ghost use Rattle.model_examples.specs.Plans.{beside_each_other};
+ghost use Rattle.model_examples.specs.Jobs.{two_cubes, tall_and_low};
+ghost use Rattle.model_examples.specs.Plans.{beside_each_other, low_then_tall, tall_then_low};
 
 /// Extent 46 has room for two cubes beside each other: with u = (0, 0) and (24, 0) they stand at (28, 28) and (52, 28), and that is a
 /// valid plan.
@@ -24,4 +25,18 @@ pub fn two_cubes_fit_46()
 pub fn one_node_is_soon_spent()
     ensures earned { Earned two_cubes 100 [] (Nodes.Order 0 1) }
     ensures spent { (s : ℕ) → IsMostSides two_cubes s → SpentTree two_cubes 100 1 (Nodes.Pending ∷ []) }
+{}
+
+/// A low cube and a tall one 25 grains to the east of it are a valid plan when the low one is printed first. In the other order the
+/// same places aren't.
+pub fn a_plan_by_its_order()
+    ensures low_first { Valid (scene_of_job tall_and_low) 100 low_then_tall }
+    ensures tall_first { Valid (scene_of_job tall_and_low) 100 tall_then_low → ⊥ }
+{}
+
+/// A spent tree has at least as many nodes as its budget, and fewer than that and the number of sides: of two cubes at most three more.
+pub fn a_tree_is_spent_by_its_length()
+    ensures three_over { SpentTree two_cubes 100 0 (Nodes.Order 0 1 ∷ Nodes.Pending ∷ Nodes.Pending ∷ []) }
+    ensures four_over { (nodes : List Node) → length nodes ≡ 4 → SpentTree two_cubes 100 0 nodes → ⊥ }
+    ensures one_under { SpentTree two_cubes 100 2 (Nodes.Pending ∷ []) → ⊥ }
 {}

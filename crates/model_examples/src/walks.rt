@@ -1,9 +1,9 @@
 //! Walks from basis to basis.
 
-ghost use Rattle.std.specs.Prelude.{[], ◌∷◌, pos, negsuc, ◌-ℤ◌, ◌*ℤ◌};
+ghost use Rattle.std.specs.Prelude.{[], ◌∷◌, pos, negsuc, neg_ℤ, ◌-ℤ◌, ◌*ℤ◌};
 ghost use Rattle.row_walks.specs.Dictionaries.{WideAt};
 ghost use Rattle.row_walks.specs.Walks.{Walk, WalkWide};
-ghost use Rattle.model_examples.specs.Solving.{FormIs, one_row, big, wide_rows};
+ghost use Rattle.model_examples.specs.Solving.{FormIs, one_row, big, wide_rows, row_of, edge, below_edge};
 
 /// `-1 + 2 u >= 0` is met at u = 1/2. Variable 0 is u and variable 1 the slack. First the slack is -1 + 2 u; it leaves, u enters, and
 /// 2 u is 1 plus the slack.
@@ -19,4 +19,17 @@ pub fn a_walk_ends_before_a_wide_row()
     ensures form { FormIs 2 wide_rows (0 ∷ 3 ∷ []) big ((pos 1 ∷ pos 0 ∷ pos 1 ∷ []) ∷ ((pos 1 -ℤ pos 2 *ℤ big) ∷ (pos 3 *ℤ big) ∷ pos 1 ∷ []) ∷ []) }
     ensures wide { WideAt 2 wide_rows (0 ∷ 3 ∷ []) 3 }
     ensures walk { WalkWide 2 wide_rows (0 ∷ 3 ∷ []) 3 }
+{}
+
+/// Wide is 2^62 and more in size, of an entry, of a constant, or of the denominator alone, and 2^62 - 1 isn't. Where u is basic
+/// instead of the slack, the denominator is its coefficient and the line is 1, 1; and the slack then has no line.
+pub fn wide_from_two_to_the_62()
+    ensures entry { WideAt 1 (row_of (negsuc 0) edge) (1 ∷ []) 1 }
+    ensures entry_below { WideAt 1 (row_of (negsuc 0) below_edge) (1 ∷ []) 1 → ⊥ }
+    ensures entry_of_this_size { WideAt 1 (row_of (negsuc 0) (neg_ℤ edge)) (1 ∷ []) 1 }
+    ensures constant { WideAt 1 (row_of (neg_ℤ edge) (pos 1)) (1 ∷ []) 1 }
+    ensures constant_below { WideAt 1 (row_of (neg_ℤ below_edge) (pos 1)) (1 ∷ []) 1 → ⊥ }
+    ensures denominator { WideAt 1 (row_of (negsuc 0) edge) (0 ∷ []) 0 }
+    ensures denominator_below { WideAt 1 (row_of (negsuc 0) below_edge) (0 ∷ []) 0 → ⊥ }
+    ensures of_no_line { WideAt 1 (row_of (negsuc 0) edge) (0 ∷ []) 1 → ⊥ }
 {}
