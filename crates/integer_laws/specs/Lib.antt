@@ -6,6 +6,6 @@ pub mod Steps
 pub mod Members
 pub mod Vectors
 pub mod Weights
-pub mod Greatest
+pub mod Extremes
 pub mod InPlace
 pub mod Examples

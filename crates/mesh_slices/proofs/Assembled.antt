@@ -14,7 +14,7 @@ use Rattle.seq_model.specs.Bounds.{IsNearFacet, IsNearSpot}
 use Rattle.seq_model.specs.Outlines.{Within}
 use Rattle.seq_model.specs.Scenes.{Between, SomeSpot, Spans, scene_of_files, description_of}
 use Rattle.seq_model.specs.Soundness.{IsSoundZone, AreSoundZones, AreExtremes, corners_of}
-use Rattle.seq_model.specs.Extremes.{least, greatest}
+use Rattle.integer_laws.specs.Extremes.{least, greatest}
 use Rattle.convex_outline.specs.Corners.{at_spot}
 use Rattle.convex_outline.specs.Means.{within_at_most}
 use Rattle.mesh_slices.specs.Objects.{spots_in, IsOutlineOf, HoldsBand, LiesInOneZone, AreZonesOf, IsObjectOf}

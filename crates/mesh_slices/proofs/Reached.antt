@@ -11,7 +11,7 @@ use Rattle.seq_model.specs.declared.printer.Part.{Part}
 use Rattle.seq_model.specs.declared.printer.Printer.{Printer}
 use Rattle.seq_model.specs.Bands.{vertices, vertex_in, crossings, facet_corners, corners, heights, least_z, height_of, band_count}
 use Rattle.seq_model.specs.Bounds.{IsPrinter}
-use Rattle.seq_model.specs.Extremes.{least, greatest}
+use Rattle.integer_laws.specs.Extremes.{least, greatest}
 use Rattle.seq_model.specs.Outlines.{below, above, four_spots, spots}
 use Rattle.seq_model.specs.Points.{Point}
 use Rattle.seq_model.specs.Scenes.{Scene, SomeSpot, Spans, scene_of_files, description_of}

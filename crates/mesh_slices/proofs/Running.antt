@@ -8,7 +8,7 @@ use Rattle.seq_model.specs.declared.mesh.Point3.{Point3}
 use Rattle.seq_model.specs.declared.mesh.Facet.{Facet}
 use Rattle.seq_model.specs.Bands.{vertices}
 use Rattle.seq_model.specs.Bounds.{IsNear, IsNearFacet}
-use Rattle.seq_model.specs.Extremes.{least, greatest}
+use Rattle.integer_laws.specs.Extremes.{least, greatest}
 use Rattle.integer_laws.specs.Members.{In, In-from_contains, In-map_cases, All-in}
 use Rattle.mesh_slices.proofs.Members.{all_flat}
 

@@ -15,7 +15,7 @@ use Rattle.integer_laws.specs.Members.{In, All-in, In-from_contains, In-map}
 use Rattle.seq_model.specs.declared.mesh.Facet.{Facet}
 use Rattle.seq_model.specs.declared.mesh.Point3.{Point3}
 use Rattle.seq_model.specs.Bands.{vertices, heights, least_z, height_of, band_count}
-use Rattle.seq_model.specs.Extremes.{least, greatest}
+use Rattle.integer_laws.specs.Extremes.{least, greatest}
 use Rattle.mesh_slices.specs.Cover.{SpacePoint, three, IsOn, HasBand}
 use Rattle.mesh_slices.specs.CoveringSpots.{in_flat}
 

@@ -2,7 +2,7 @@ ghost use Rattle.std.specs.Prelude.{◌≡◌, ◌<◌, length, All};
 ghost use Rattle.std.specs.Int.{int_min, int_max};
 ghost use Rattle.seq_model.specs.Bands.{heights};
 ghost use Rattle.seq_model.specs.Bounds.{IsNear, IsNearFacet};
-ghost use Rattle.seq_model.specs.Extremes.{least, greatest};
+ghost use Rattle.integer_laws.specs.Extremes.{least, greatest};
 ghost use Rattle.mesh_slices.specs.Vertices.{xs, ys};
 
 use seq_model::{Facet, Point3};

@@ -1,7 +1,7 @@
 -- The bounds that meshes and printers keep.
 --
 --   IsNearSpot n s          the coordinates of the spot s are at most n grains in size
---   IsNear p                the coordinates of p are at most 10,000,000 µm in size
+--   IsNear p                the coordinates of p are at most 10,000,000 µm in size: it lies within 10 m of the origin
 --   IsNearFacet f           its three corners are near
 --   IsPrinter g w d s m n   grain, width, depth, step, margin and grid are in their ranges
 use Rattle.std.specs.Prelude.{ℕ, ℤ, pos, ◌≤◌, ◌≤ℤ◌, unsigned_abs}
@@ -13,13 +13,11 @@ pub record IsNearSpot (n : ℕ) (s : Spot) : Type 0 where
   pub x : unsigned_abs s.x ≤ n
   pub y : unsigned_abs s.y ≤ n
 
--- a corner lies within 10 m of the origin in each coordinate, in µm
 pub record IsNear (p : Point3) : Type 0 where
   pub x : unsigned_abs p.x ≤ 10_000_000
   pub y : unsigned_abs p.y ≤ 10_000_000
   pub z : unsigned_abs p.z ≤ 10_000_000
 
--- each corner of a facet is near
 pub record IsNearFacet (f : Facet) : Type 0 where
   pub a : IsNear f.a
   pub b : IsNear f.b

@@ -1,6 +1,8 @@
 -- Contacts of a job.
 --
+--   less a b                  a - b
 --   difference A B F          all a - b - f over members of the three lists
+--   reaches_to hi b c         b + hi reaches c, or there is no end
 --   ZonesMeet earlier p later some bands of the two zones meet by the part
 --   IsContact job c           it names two different objects, a zone of each and a part, and the zones meet
 --   points_of job c           the difference of the contact: over the earlier zone, the later zone and the part
@@ -19,12 +21,10 @@ less a b = record { x = a.x -ℤ b.x; y = a.y -ℤ b.y }
 abbrev pub difference : List Spot → List Spot → List Spot → List Spot
 difference A B F = flat_map (λ a. flat_map (λ b. map (less (less a b)) F) B) A
 
--- b + hi reaches c, or there is no end
 abbrev pub reaches_to : Option ℕ → ℕ → ℕ → Bool
 reaches_to None b c = true
 reaches_to (Some hi) b c = nat_le c (b + hi)
 
--- some bands of the two zones meet by the part
 abbrev pub zones_meet : Zone → Part → Zone → Bool
 zones_meet earlier part later = nat_le (later.first + part.lo) earlier.last && reaches_to part.hi later.last earlier.first
 

@@ -1,9 +1,10 @@
 -- What the numbers of a job name, and the scene of a job.
 --
 --   object_at job i, zone_at job i z, part_at job k     the object, its zone and the part with these numbers
+--   holds_band b z      band b is one of the bands of zone z
 --   scene_of_job job    in each band the corners of the zone that holds it, or no spots where none does
-use Rattle.std.specs.Prelude.{ℕ, pos, Bool, ◌&&◌, nat_le, List, [], Option, Some, None, length, slice_index_or}
-use Rattle.std.specs.Prelude.{find}
+use Rattle.std.specs.Prelude.{ℕ, pos, Bool, ◌&&◌, nat_le, List, [], Option, Some, None, find, length, slice_index_or}
+use Rattle.seq_model.specs.Corners.{no_spot}
 use Rattle.seq_model.specs.Scenes.{Scene}
 use Rattle.seq_model.specs.declared.job.Job.{Job}
 use Rattle.seq_model.specs.declared.job.Object.{Object}
@@ -12,9 +13,6 @@ use Rattle.seq_model.specs.declared.printer.Part.{Part}
 use Rattle.seq_model.specs.declared.printer.Spot.{Spot}
 
 -- past the end of a list a number names these
-abbrev pub no_spot : Spot
-no_spot = record { x = pos 0; y = pos 0 }
-
 abbrev pub no_zone : Zone
 no_zone = record { corners = []; first = 0; last = 0 }
 

@@ -1,6 +1,6 @@
 -- The parts of a printer that move with its nozzle tip.
 --
---   tip               part 0: the one point of the tip, at its own band
+--   tip               part 0, the nozzle tip: one point, in the band that is printed and no other
 --   IsPartName n      1 to 40 letters, digits, `_` and `-`
 --   IsSoundPart p     a name, 1 to 32 corners as a hull gives them, at most 100,000 grains in size, and bands that rise
 --   AreParts ps       the tip, then at most 12 listed parts, all sound
@@ -12,7 +12,6 @@ use Rattle.seq_model.specs.Bounds.{IsNearSpot}
 use Rattle.seq_model.specs.Corners.{AreCorners}
 use Rattle.seq_model.specs.declared.printer.Part.{Part}
 
--- the nozzle tip: one point, in the band that is printed and no other
 abbrev pub tip : Part
 tip = record { name = codes "tip"; corners = record { x = pos 0; y = pos 0 } ∷ []; lo = 0; hi = Some 0 }
 
@@ -33,7 +32,6 @@ pub record IsSoundPart (part : Part) : Type 0 where
   pub low : part.lo ≤ 1_000_000
   pub high : (hi : ℕ) → part.hi ≡ Some hi → (part.lo ≤ hi) × (hi ≤ 1_000_000)
 
--- the tip is part 0, and at most 12 listed parts follow it
 pub record AreParts (parts : List Part) : Type 0 where
   pub tip_first : take 1 parts ≡ tip ∷ []
   pub few : length parts ≤ 13

@@ -1,7 +1,9 @@
 -- What the objects of a job keep.
 --
---   IsSoundZone z           corners of a convex outline that has area, at most 1,001,000 grains in size, and a run of bands
+--   IsSoundZone z           corners of a convex outline that has area, so three or more that turn left, at most 1,001,000 grains
+--                           in size, and a run of bands
 --   AreSoundZones n zs      sound zones that rise, don't overlap, and end below the number of bands
+--   corners_of zones        the corners of all of them
 --   AreExtremes low high zs low and high are the least and the greatest coordinates of the zones' corners
 --   IsSoundObject o         at most 200 bands, at least one zone, and the extremes are those of its zones
 --   AreSoundObjects os      1 to 16 sound objects
@@ -9,12 +11,11 @@ use Rattle.std.specs.Prelude.{◌≡◌, ℕ, ◌<◌, ◌≤◌, List, length, 
 use Rattle.std.specs.List.{flat_map}
 use Rattle.seq_model.specs.Bounds.{IsNearSpot}
 use Rattle.seq_model.specs.Corners.{AreCorners}
-use Rattle.seq_model.specs.Extremes.{least, greatest}
+use Rattle.integer_laws.specs.Extremes.{least, greatest}
 use Rattle.seq_model.specs.declared.job.Object.{Object}
 use Rattle.seq_model.specs.declared.job.Zone.{Zone}
 use Rattle.seq_model.specs.declared.printer.Spot.{Spot}
 
--- its outline has area: it has three corners, and they turn left
 pub record IsSoundZone (z : Zone) : Type 0 where
   pub corners : AreCorners z.corners
   pub area : 3 ≤ length z.corners

@@ -1,12 +1,19 @@
 -- Which splits a search may make, and trees that aren't finished.
 --
---   Values, IsOn job e path at      a point u / d, and that it is a point of the path: it meets the system there
+--   Values, IsOn job e path at      a point u / d, and that it is a point of the path: all variables are at least 0, and it meets
+--                                   all rows of the system there
+--   Somewhere job e path Here       at some point of the path this holds
 --   CollidesAt job e at i j         object i, as the earlier, collides there with object j
 --   ContactCollidesAt job e at contact   it is a contact, and collides there, by the bands of its zones and its part
 --   IsForced job e at a b           a before b is forced there: the pair collides one way only, and not this way
+--   IsUnordered path i j            neither order of the pair is on the path
+--   Precedes job e path at a b      a before b is on the path, or forced there
+--   AreNeighbours ..                a and then b are neighbours of a cycle of path orders and forced orders, which may be begun with them
 --   Earned job e path node          a split that a search may make
 --   Grounded job e path node        a split that a certificate may hold
 --   OpenTree job e nodes            a tree whose splits are earned and whose closed leaves are sound, with a pending leaf
+--   StandsAt job nodes k path       node k of the tree stands at this path
+--   CouldSplit job e path           a split could be made at the path, and be earned
 --   SpentTree job e budget nodes    an open tree that has used the budget up, and could go on
 use Rattle.std.specs.Prelude.{◌≡◌, ℕ, ◌+◌, ◌*◌, ◌<◌, ◌≤◌, List, [], ◌∷◌, Contains, length, take, slice_get, Some, ◌⊎◌, ℤ}
 use Rattle.seq_model.specs.Budgets.{IsMostSides}
@@ -26,12 +33,10 @@ pub record Values : Type 0 where
   pub d : ℤ
   pub u : List ℤ
 
--- all variables are at least 0, and all rows of the system are met
 pub record IsOn (job : Job) (e : ℕ) (path : List Choice) (at : Values) : Type 0 where
   pub meets : MeetsRows (system job e path) at.d at.u
   pub many : length at.u ≡ 2 * length job.objects
 
--- at some point of the path this holds
 pub record Somewhere (job : Job) (e : ℕ) (path : List Choice) (Here : Values → Type 0) : Type 0 where
   pub at : Values
   pub on : IsOn job e path at
@@ -47,15 +52,12 @@ ContactCollidesAt job e at c =
 abbrev pub IsForced : Job → ℕ → Values → ℕ → ℕ → Type 0
 IsForced job e at a b = CollidesAt job e at b a × (CollidesAt job e at a b → ⊥)
 
--- neither order of the pair is on the path
 abbrev pub IsUnordered : List Choice → ℕ → ℕ → Type 0
 IsUnordered path i j = (Contains path (Choices.Before i j) → ⊥) × (Contains path (Choices.Before j i) → ⊥)
 
--- a before b on the path, or forced there
 abbrev pub Precedes : Job → ℕ → List Choice → Values → ℕ → ℕ → Type 0
 Precedes job e path at a b = Contains path (Choices.Before a b) ⊎ IsForced job e at a b
 
--- a and then b are neighbours of a cycle of path orders and forced orders, which may be begun with them
 abbrev pub AreNeighbours : Job → ℕ → List Choice → Values → ℕ → ℕ → Type 0
 AreNeighbours job e path at a b = (others : List ℕ) × IsCycle (Precedes job e path at) (a ∷ b ∷ others)
 
@@ -75,22 +77,15 @@ pub record OpenTree (job : Job) (e : ℕ) (nodes : List Node) : Type 0 where
   pub tree : IsTree job (λ path node. IsSoundNode job e path node × Earned job e path node) [] nodes
   pub pending : Contains nodes Nodes.Pending
 
--- node k of the tree stands at this path
 abbrev pub StandsAt : Job → List Node → ℕ → List Choice → Type 0
 StandsAt job nodes k path = (left : List (List Choice)) × Reads job (λ at node. Unit {0}) ([] ∷ []) (take k nodes) (path ∷ left)
 
-abbrev pub IsSplit : Node → Type 0
-IsSplit (Nodes.Order i j) = Unit {0}
-IsSplit (Nodes.Side contact children) = Unit {0}
-IsSplit leaf = ⊥
-
--- a split that could be made at the path
 pub record CouldSplit (job : Job) (e : ℕ) (path : List Choice) : Type 0 where
   pub node : Node
-  pub split : IsSplit node
   pub sound : IsSoundNode job e path node
-  pub paths : List (List Choice)
-  pub children : AreChildren job path node paths
+  pub first : List Choice
+  pub others : List (List Choice)
+  pub children : AreChildren job path node (first ∷ others)
   pub earned : Earned job e path node
 
 pub record SpentTree (job : Job) (e budget : ℕ) (nodes : List Node) : Type 0 where

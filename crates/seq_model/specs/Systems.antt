@@ -1,9 +1,15 @@
 -- The linear system of a path at an extent.
 --
 --   Row                  c and the coefficients a say that c plus the sum of a * u is at least 0
---   system job e path    the bounds, two rows for each object, then one row for each side of the path in path order
+--   at_most job z bound  bound - u >= 0 for variable z
+--   bounds_of ..         two rows for each object: the region's size less the object's span, in x and in y
+--   side_row job c dir   the later object of the contact stands beyond the side
+--   system job e path    the bounds, then one row for each side of the path in path order
+--   row_value d u row    the value of a row at the point u / d, times d
 --   MeetsRows rows d u   the point u / d has no negative coordinate and meets every row
---   Contradiction rows mults     with these multipliers every coefficient sums to at most 0, and the constants to less than 0
+--   sum_constant, sum_coefficients    of the rows, each times its multiplier
+--   Contradiction rows mults     with these multipliers, each at least 0 and of a row, every coefficient sums to at most 0, and the
+--                                constants to less than 0
 --   place_of job e d u o         where object o stands at the point u / d
 --
 -- Variable 2i is object i's x and variable 2i + 1 its y: place + least spot - low corner of the region.
@@ -29,11 +35,9 @@ pub record Row : Type 0 where
 abbrev pub zeros : Job → List ℤ
 zeros job = replicate (2 * length job.objects) (pos 0)
 
--- bound - u >= 0 for one variable
 abbrev pub at_most : Job → ℕ → ℤ → Row
 at_most job variable bound = record { c = bound; a = slice_set (zeros job) variable (neg_ℤ (pos 1)) }
 
--- the two rows of each object: the region's size less the object's span
 abbrev pub bounds_of : Job → ℕ → ℕ → List Object → List Row
 bounds_of job e variable [] = []
 bounds_of job e variable (o ∷ objects) =
@@ -41,7 +45,6 @@ bounds_of job e variable (o ∷ objects) =
     ∷ at_most job (variable + 1) (share_of job.printer.depth job.printer.grid e -ℤ (o.high.y -ℤ o.low.y))
     ∷ bounds_of job e (variable + 2) objects
 
--- the later object stands beyond the side of the contact
 abbrev pub side_row : Job → Contact → Dir → Row
 side_row job contact dir =
     let i = (object_at job contact.i).low in
@@ -59,7 +62,6 @@ side_rows job (Choices.Side contact dir ∷ path) = side_row job contact dir ∷
 abbrev pub system : Job → ℕ → List Choice → List Row
 system job e path = bounds_of job e 0 job.objects ++ side_rows job path
 
--- the value of a row at the point u / d, times d
 abbrev pub row_value : ℤ → List ℤ → Row → ℤ
 row_value d u row = d *ℤ row.c +ℤ dot row.a u
 
@@ -74,7 +76,6 @@ no_row = record { c = pos 0; a = [] }
 abbrev pub row_at : List Row → ℕ → Row
 row_at rows r = slice_index_or rows r no_row
 
--- the sum of the rows, each times its multiplier
 abbrev pub sum_constant : List Row → List Mult → ℤ
 sum_constant rows [] = pos 0
 sum_constant rows (m ∷ mults) = m.times *ℤ (row_at rows m.row).c +ℤ sum_constant rows mults
@@ -83,7 +84,6 @@ abbrev pub sum_coefficients : List Row → List Mult → List ℤ
 sum_coefficients rows [] = []
 sum_coefficients rows (m ∷ mults) = plus (scale m.times (row_at rows m.row).a) (sum_coefficients rows mults)
 
--- a multiplier is at least 0 and names a row
 pub record IsTaken (rows : List Row) (m : Mult) : Type 0 where
   pub row : m.row < length rows
   pub times : pos 0 ≤ℤ m.times

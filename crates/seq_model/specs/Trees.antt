@@ -1,6 +1,8 @@
 -- Trees of choices, as lists of nodes in preorder, and when a tree refutes a path.
 --
---   IsPath job path               each side on the path may follow the choices before it
+--   IsPath job path               each side on the path is one of the sides of a contact of the job, and the order of its two
+--                                 objects stands earlier on the path
+--   also path choice              one more choice on a path
 --   IsCycle R objects             at least two objects, each in the relation R to the next one, and the last to the first
 --   AreChildren job path node ps  the paths of the node's children are ps, in their order
 --   IsSoundNode job e path node   what is asked of a node at its path, but for its children
@@ -12,42 +14,29 @@
 --
 -- Reading from the left, a node takes the first path that is to come and puts those of its children in its place. In other
 -- words: a tree for the path is its first node and then, one after the other, a tree for each child's path.
-use Rattle.std.specs.Prelude.{◌≡◌, ℕ, ◌<◌, ◌≤◌, List, [], ◌∷◌, ◌++◌, Contains, length, map}
+use Rattle.std.specs.Prelude.{◌≡◌, ℕ, ◌<◌, ◌≤◌, List, [], ◌∷◌, ◌++◌, Contains, drop, length, map, take}
+use Rattle.std.specs.List.{AllZip}
 use Rattle.seq_model.specs.Contacts.{IsContact, points_of}
 use Rattle.seq_model.specs.Sides.{Side, AreSides}
 use Rattle.seq_model.specs.Systems.{system, Contradiction}
 use Rattle.seq_model.specs.declared.job.Job.{Job}
 use Rattle.seq_model.specs.declared.tree.Choice.{Choice}
 use Rattle.seq_model.specs.declared.tree.Choice.TheVariants as Choices
+use Rattle.seq_model.specs.declared.tree.Contact.{Contact}
 use Rattle.seq_model.specs.declared.tree.Dir.{Dir}
 use Rattle.seq_model.specs.declared.tree.Node.{Node}
 use Rattle.seq_model.specs.declared.tree.Node.TheVariants as Nodes
 
-abbrev pub IsRing : (ℕ → ℕ → Type 0) → ℕ → List ℕ → Type 0
-IsRing R first [] = ⊥
-IsRing R first (a ∷ []) = R a first
-IsRing R first (a ∷ b ∷ objects) = R a b × IsRing R first (b ∷ objects)
-
 abbrev pub IsCycle : (ℕ → ℕ → Type 0) → List ℕ → Type 0
-IsCycle R [] = ⊥
-IsCycle R (a ∷ objects) = (1 ≤ length objects) × IsRing R a (a ∷ objects)
+IsCycle R objects = (2 ≤ length objects) × AllZip R objects (drop 1 objects ++ take 1 objects)
 
--- one more choice on a path
 abbrev pub also : List Choice → Choice → List Choice
 also path choice = path ++ choice ∷ []
 
--- after these choices a side may be chosen where its contact exists, it is one of the contact's sides, and their order is chosen
-abbrev pub MayFollow : Job → List Choice → Choice → Type 0
-MayFollow job path (Choices.Before i j) = Unit {0}
-MayFollow job path (Choices.Side contact dir) = IsContact job contact × Side (points_of job contact) dir × Contains path (Choices.Before contact.i contact.j)
-
--- each of the choices may follow the path and those before it
-abbrev pub Follow : Job → List Choice → List Choice → Type 0
-Follow job path [] = Unit {0}
-Follow job path (choice ∷ choices) = MayFollow job path choice × Follow job (also path choice) choices
-
 abbrev pub IsPath : Job → List Choice → Type 0
-IsPath job path = Follow job [] path
+IsPath job path =
+    (earlier later : List Choice) (contact : Contact) (dir : Dir) → path ≡ earlier ++ Choices.Side contact dir ∷ later
+    → IsContact job contact × Side (points_of job contact) dir × Contains earlier (Choices.Before contact.i contact.j)
 
 abbrev pub AreChildren : Job → List Choice → Node → List (List Choice) → Type 0
 AreChildren job path (Nodes.Order i j) paths = paths ≡ also path (Choices.Before i j) ∷ also path (Choices.Before j i) ∷ []

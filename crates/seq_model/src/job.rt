@@ -1,5 +1,4 @@
 ghost use Rattle.std.proofs.Props.{props};
-ghost use Rattle.seq_model.specs.OneProof.{StartsLeast-prop, TurnsLeft-prop};
 ghost use Rattle.seq_model.specs.Soundness.{AreSoundObjects};
 
 use crate::{Printer, Spot};
@@ -31,5 +30,5 @@ pub struct Object {
 pub struct Job {
     pub printer: Printer,
     pub objects: Items<Object>,
-    pub ghost sound: { AreSoundObjects objects } by { Prim.hlevel (props, StartsLeast-prop, TurnsLeft-prop) },
+    pub ghost sound: { AreSoundObjects objects } by { Prim.hlevel props },
 }

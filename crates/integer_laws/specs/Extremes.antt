@@ -1,13 +1,22 @@
--- The greatest value of a function over a list.
+-- The least and the greatest of a list of numbers, and of a function over a list.
 --
+--   least xs             the least member, 0 of no member
+--   greatest xs          the greatest member, 0 of no member
 --   IsGreatest f xs g    each member's value is at most g, and a member reaches it
---   greatest f xs        that value, of a list that is not empty
---   greatest_is          it is
+--   greatest_is          the greatest of the values is so, of a list that is not empty
 --   greatest_unique      and no other value is
 use Rattle.std.proofs.Common.{◌≡◌, List, [], ◌∷◌, map, fold, refl, sym, subst, arith, ℤ, pos, ◌≤ℤ◌, ◌⊎◌, inl, inr, All, Contains}
 use Rattle.std.proofs.lemmas.Int.{ints, fold-int_max_bounds, fold-int_max_reached}
-use Rattle.std.specs.Int.{int_max}
+use Rattle.std.specs.Int.{int_min, int_max}
 use Rattle.integer_laws.specs.Members.{In, In-from_contains, All-in, In-map, In-map_cases}
+
+abbrev pub least : List ℤ → ℤ
+least [] = pos 0
+least (x ∷ xs) = fold int_min x xs
+
+abbrev pub greatest : List ℤ → ℤ
+greatest [] = pos 0
+greatest (x ∷ xs) = fold int_max x xs
 
 pub record IsGreatest {A : Type 0} (f : A → ℤ) (xs : List A) (g : ℤ) : Type 0 where
   pub bound : (x : A) → In x xs → f x ≤ℤ g
@@ -15,11 +24,7 @@ pub record IsGreatest {A : Type 0} (f : A → ℤ) (xs : List A) (g : ℤ) : Typ
   pub member : In at xs
   pub reached : f at ≡ g
 
-abbrev pub greatest : {A : Type 0} → (A → ℤ) → List A → ℤ
-greatest f [] = pos 0
-greatest f (x ∷ xs) = fold int_max (f x) (map f xs)
-
-pub greatest_is : {A : Type 0} (f : A → ℤ) (x : A) (xs : List A) → IsGreatest f (x ∷ xs) (greatest f (x ∷ xs))
+pub greatest_is : {A : Type 0} (f : A → ℤ) (x : A) (xs : List A) → IsGreatest f (x ∷ xs) (greatest (map f (x ∷ xs)))
 greatest_is {A} f x xs = by (fold-int_max_reached (f x) (map f xs) g refl)
   where
     g : ℤ
