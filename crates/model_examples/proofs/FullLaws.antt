@@ -21,7 +21,7 @@ use Rattle.seq_model.specs.declared.printer.Spot.{Spot}
 use Rattle.seq_model.specs.declared.tree.Contact.{Contact}
 use Rattle.seq_model.specs.declared.tree.Dir.{Dir}
 
--- a job has contacts, and each has just these sides
+-- a job has contacts, and each has just these sides, three or more
 pub record AllHave (job : Job) (dirs : List Dir) : Type 0 where
   some : 3 ≤ length dirs
   contact : Contact
