@@ -74,7 +74,7 @@ no_plan scene low high row one grid width depth spans over e plan valid =
     let region = region_of scene.width scene.depth scene.grid e in
     let p = placed (IsInside scene region plan.scale) plan.places 0 valid.inside (valid.once 0 (omega (arith, one))) in
     let fits = span_fits scene region plan.scale p.place low high valid.scale p.holds p.is spans in
-    let within = nested scene.width scene.depth scene.grid e scene.grid width depth grid valid.to_grid (omega arith) in
+    let within = nested scene.width scene.depth scene.grid e scene.grid width depth grid valid.to_grid in
     too_wide scene.width scene.depth low high row region over (subst (λ r. LiesWithin region r) (whole_region scene.width scene.depth scene.grid width depth grid) within) fits
 
 -- ---- the system of the whole plate, for one object

@@ -1,9 +1,11 @@
 -- A pair of objects collides where a contact of it does.
 --
 --   find_zone       a band of a zone finds it, since zones don't overlap
---   bands_meet      zones that meet have two bands that meet
---   contact_collides, collides_by_contact
-use Rattle.std.proofs.Common.{◌≡◌, ◌≢◌, ℕ, zero, suc, ◌+◌, ◌-◌, ◌<◌, ◌≤◌, max, min, List, [], ◌∷◌, length, get_or, refl, ap, sym, subst, ◌∙◌, arith, Bool, true, false, ◌&&◌, Option, Some, None, AllPairs, inl, inr, ◌⊎◌}
+--   two_bands       zones that meet have two bands that meet
+--   ByBands, contact_by_bands   a contact collides just where the spots of two such bands do
+--   contact_collides            and then its objects do
+--   collides_by_contact         which they do only so
+use Rattle.std.proofs.Common.{◌≡◌, ◌≢◌, ℕ, zero, suc, ◌+◌, ◌-◌, ◌<◌, ◌≤◌, max, min, List, [], ◌∷◌, length, get_or, refl, ap, sym, subst, ◌∙◌, arith, Bool, true, false, ◌&&◌, Option, Some, None, AllPairs, inl, inr, ◌⊎◌, ◌↔◌}
 use Rattle.std.proofs.lemmas.Bool.{cases_lt}
 use Rattle.std.proofs.lemmas.Bool.Decides.{nat_tests}
 use Rattle.std.proofs.lemmas.Int.{ints}
@@ -11,7 +13,7 @@ use Rattle.std.proofs.lemmas.List.Elements.{All-get_or}
 use Rattle.std.proofs.lemmas.Option.{same_Some, none-some}
 use Rattle.std.specs.Prelude.{find, nat_le, cond, MatchOption}
 use lib.Dec.{T}
-use Rattle.seq_model.specs.Contacts.{reaches_to, ZonesMeet}
+use Rattle.seq_model.specs.Contacts.{reaches_to, ZonesMeet, IsContact}
 use Rattle.seq_model.specs.Jobs.{no_object, no_zone, no_part, object_at, zone_at, part_at, holds_band, corners_or_none, scene_of_job}
 use Rattle.seq_model.specs.Outlines.{Inner}
 use Rattle.seq_model.specs.Parts.{IsSoundPart}
@@ -158,25 +160,66 @@ below_bands job i z b l m high =
     let e : (zone_at job i z).last < (object_at job i).bands = All-get_or (λ (y : Zone). y.last < (object_at job i).bands) (object_at job i).zones z no_zone m (sound_object job i l).zones.end in
     omega (arith, e, high)
 
-pub contact_collides : (job : Job) (e : ℕ) (at : Values) (c : Contact) → ContactCollidesAt job e at c → CollidesAt job e at c.i c.j
-contact_collides job e at c k =
+-- a contact collides by some bands of its two zones, which meet by its part
+pub record ByBands (job : Job) (e : ℕ) (at : Values) (contact : Contact) : Type 0 where
+  pub b : ℕ
+  pub c : ℕ
+  pub b_low : (zone_at job contact.j contact.zj).first ≤ b
+  pub b_high : b ≤ (zone_at job contact.j contact.zj).last
+  pub c_low : (zone_at job contact.i contact.zi).first ≤ c
+  pub c_high : c ≤ (zone_at job contact.i contact.zi).last
+  pub meets : Meets (part_at job contact.part) b c
+  pub overlap : Overlap ((scene_of_job job).spots contact.i c) ((scene_of_job job).spots contact.j b) (part_at job contact.part).corners (place_of job e at.d at.u contact.i) (place_of job e at.d at.u contact.j)
+
+by_bands : (job : Job) (e : ℕ) (at : Values) (contact : Contact) → ContactCollidesAt job e at contact → ByBands job e at contact
+by_bands job e at contact k =
     let is = k.0 in
-    let earlier = zone_at job c.i c.zi in
-    let later = zone_at job c.j c.zj in
-    let part = part_at job c.part in
-    let two = two_bands earlier later part (sound_zone job c.i c.zi is.i_in is.zi_in).rises (sound_zone job c.j c.zj is.j_in is.zj_in).rises (All-get_or IsSoundPart job.printer.parts c.part no_part is.part_in job.printer.parts_are.sound) is.meet in
-    let p = place_of job e at.d at.u c.i in
-    let r = place_of job e at.d at.u c.j in
+    let earlier = zone_at job contact.i contact.zi in
+    let later = zone_at job contact.j contact.zj in
+    let part = part_at job contact.part in
+    let sound_part = All-get_or IsSoundPart job.printer.parts contact.part no_part is.part_in job.printer.parts_are.sound in
+    let two = two_bands earlier later part (sound_zone job contact.i contact.zi is.i_in is.zi_in).rises (sound_zone job contact.j contact.zj is.j_in is.zj_in).rises sound_part is.meet in
+    let p = place_of job e at.d at.u contact.i in
+    let r = place_of job e at.d at.u contact.j in
     record {
       b = two.b;
       c = two.c;
-      part = part;
-      band_of_later = below_bands job c.j c.zj two.b is.j_in is.zj_in two.b_high;
-      band_of_earlier = below_bands job c.i c.zi two.c is.i_in is.zi_in two.c_high;
-      part_of_scene = (c.part, is.part_in, any_default job.printer.parts c.part part no_part is.part_in);
+      b_low = two.b_low;
+      b_high = two.b_high;
+      c_low = two.c_low;
+      c_high = two.c_high;
       meets = two.meets;
-      overlap = subst (λ A. Overlap A ((scene_of_job job).spots c.j two.b) part.corners p r) (sym (spots_of_zone job c.i c.zi two.c is.i_in is.zi_in two.c_low two.c_high))
-          (subst (λ B. Overlap earlier.corners B part.corners p r) (sym (spots_of_zone job c.j c.zj two.b is.j_in is.zj_in two.b_low two.b_high)) k.1);
+      overlap = subst (λ A. Overlap A ((scene_of_job job).spots contact.j two.b) part.corners p r) (sym (spots_of_zone job contact.i contact.zi two.c is.i_in is.zi_in two.c_low two.c_high))
+          (subst (λ B. Overlap earlier.corners B part.corners p r) (sym (spots_of_zone job contact.j contact.zj two.b is.j_in is.zj_in two.b_low two.b_high)) k.1);
+    }
+
+bands_do : (job : Job) (e : ℕ) (at : Values) (contact : Contact) → IsContact job contact → ByBands job e at contact → ContactCollidesAt job e at contact
+bands_do job e at contact is y =
+    let part = part_at job contact.part in
+    let p = place_of job e at.d at.u contact.i in
+    let r = place_of job e at.d at.u contact.j in (
+      is,
+      subst (λ A. Overlap A (zone_at job contact.j contact.zj).corners part.corners p r) (spots_of_zone job contact.i contact.zi y.c is.i_in is.zi_in y.c_low y.c_high)
+          (subst (λ B. Overlap ((scene_of_job job).spots contact.i y.c) B part.corners p r) (spots_of_zone job contact.j contact.zj y.b is.j_in is.zj_in y.b_low y.b_high) y.overlap),
+    )
+
+pub contact_by_bands : (job : Job) (e : ℕ) (at : Values) (contact : Contact) → ContactCollidesAt job e at contact ↔ (IsContact job contact × ByBands job e at contact)
+contact_by_bands job e at contact = (λ k. (k.0, by_bands job e at contact k), λ y. bands_do job e at contact y.0 y.1)
+
+pub contact_collides : (job : Job) (e : ℕ) (at : Values) (c : Contact) → ContactCollidesAt job e at c → CollidesAt job e at c.i c.j
+contact_collides job e at c k =
+    let is = k.0 in
+    let y = by_bands job e at c k in
+    let part = part_at job c.part in
+    record {
+      b = y.b;
+      c = y.c;
+      part = part;
+      band_of_later = below_bands job c.j c.zj y.b is.j_in is.zj_in y.b_high;
+      band_of_earlier = below_bands job c.i c.zi y.c is.i_in is.zi_in y.c_high;
+      part_of_scene = (c.part, is.part_in, any_default job.printer.parts c.part part no_part is.part_in);
+      meets = y.meets;
+      overlap = y.overlap;
     }
 
 -- ---- and where two objects collide, a contact of theirs does

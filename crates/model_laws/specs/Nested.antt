@@ -39,8 +39,8 @@ reaches size w v h =
     let b = floor_is (size -ℤ v) (pos 2) (omega (arith, ints)) in
     record { low = omega (arith, ints, product_is, h, a.high, b.low); high = omega (arith, ints, product_is, h, a.low, b.high) }
 
-pub nested : (width depth : ℤ) (grid e f : ℕ) → pos 1 ≤ℤ width → pos 1 ≤ℤ depth → 1 ≤ grid → e ≤ f → f ≤ grid → LiesWithin (region_of width depth grid e) (region_of width depth grid f)
-nested width depth grid e f w d g h k =
+pub nested : (width depth : ℤ) (grid e f : ℕ) → pos 1 ≤ℤ width → pos 1 ≤ℤ depth → 1 ≤ grid → e ≤ f → LiesWithin (region_of width depth grid e) (region_of width depth grid f)
+nested width depth grid e f w d g h =
     let x = reaches width (share_of width grid e) (share_of width grid f) (share_grows width grid e f w g h) in
     let y = reaches depth (share_of depth grid e) (share_of depth grid f) (share_grows depth grid e f d g h) in
     record { west = x.low; east = x.high; south = y.low; north = y.high }
@@ -61,7 +61,7 @@ lies_in inner outer scale place s one w l =
 pub valid_at_larger : (scene : Scene) (e f : ℕ) (plan : Plan) → pos 1 ≤ℤ scene.width → pos 1 ≤ℤ scene.depth → e ≤ f → f ≤ scene.grid → Valid scene e plan → Valid scene f plan
 valid_at_larger scene e f plan w d h k v =
     let one = v.from_one in
-    let within = nested scene.width scene.depth scene.grid e f w d (omega (arith, one, h, k)) h k in
+    let within = nested scene.width scene.depth scene.grid e f w d (omega (arith, one, h, k)) h in
     record {
       from_one = omega (arith, one, h);
       to_grid = k;

@@ -2,6 +2,7 @@
 --
 --   contact_count job i j    how many contacts have i earlier and j later
 --   over_pairs f n           the sum of f i j over the pairs i < j below n
+--   HasSides job c s        the contact has s sides
 --   IsMostSides job s        s is the greatest number of sides of a contact, and at least 3
 --   full_of job s            2 ^ (p + 1) * s ^ c for p pairs, and c the sum over them of the greater of their two numbers of contacts
 --   Full job full            full is this number
@@ -16,7 +17,8 @@ use Rattle.seq_model.specs.declared.tree.Dir.{Dir}
 
 abbrev pub contact_count : Job → ℕ → ℕ → ℕ
 contact_count job i j =
-    sum_by (λ earlier. sum_by (λ part. count_by (λ later. zones_meet earlier part later) (object_at job j).zones) job.printer.parts) (object_at job i).zones
+    sum_by (λ earlier. sum_by (λ part. count_by (zones_meet earlier part) (object_at job j).zones) job.printer.parts)
+    (object_at job i).zones
 
 abbrev pub over_pairs : (ℕ → ℕ → ℕ) → ℕ → ℕ
 over_pairs f n = sum_by (λ j. sum_by (λ i. f i j) (range_with_len 0 j)) (range_with_len 0 n)

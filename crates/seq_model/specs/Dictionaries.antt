@@ -5,9 +5,10 @@
 --   combination es lists     the sum of the lists, each times its number
 --   free_of count basis      the variables and slacks that aren't in the basis, rising
 --   Says vars rows d free basis lines    d times each basic variable is its line, a constant and an entry for each free one:
---                            an identity of coefficients, once each slack is replaced by its row
+--                            an identity of coefficients, once each slack is replaced by its row, which has `vars` coefficients
 --   Rises count basis        the basis rises, and is below the count
 --   DividesAll k d lines     k divides d and all numbers of the lines
+--   is_in basis z            z is in the basis
 --   Form vars rows basis     the form of the basis: d and the lines, of which no number above 1 divides all
 --   Has zs xs z x            z is one of zs, and x stands at its place in xs
 --   WideAt vars rows basis z the basis has a form, z is in it, and d or a number of its line is 2^62 or more in size
@@ -53,7 +54,7 @@ pub record Form (vars : ℕ) (rows : List Row) (basis : List ℕ) : Type 0 where
   pub rising : Rises (vars + length rows) basis
   pub positive : pos 1 ≤ℤ d
   pub says : Says vars rows d (free_of (vars + length rows) basis) basis lines
-  pub least : (k : ℕ) → DividesAll k d lines → k ≡ 1
+  pub reduced : (k : ℕ) → DividesAll k d lines → k ≡ 1
 
 abbrev pub Has : {X : Type 0} → List ℕ → List X → ℕ → X → Type 0
 Has [] xs z x = ⊥

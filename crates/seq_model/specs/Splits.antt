@@ -66,12 +66,16 @@ Earned job e path (Nodes.Side contact children) = Somewhere job e path (λ at. C
 Earned job e path (Nodes.Order i j) =
     IsUnordered path i j × Somewhere job e path (λ at.
     (CollidesAt job e at i j × CollidesAt job e at j i) ⊎ (AreNeighbours job e path at i j ⊎ AreNeighbours job e path at j i))
-Earned job e path leaf = Unit {0}
+Earned job e path (Nodes.Bound mults) = Unit {0}
+Earned job e path (Nodes.Cycle objects) = Unit {0}
+Earned job e path Nodes.Pending = Unit {0}
 
 abbrev pub Grounded : Job → ℕ → List Choice → Node → Type 0
 Grounded job e path (Nodes.Side contact children) = Somewhere job e path (λ at. ContactCollidesAt job e at contact)
 Grounded job e path (Nodes.Order i j) = IsUnordered path i j × Somewhere job e path (λ at. CollidesAt job e at i j ⊎ CollidesAt job e at j i)
-Grounded job e path leaf = Unit {0}
+Grounded job e path (Nodes.Bound mults) = Unit {0}
+Grounded job e path (Nodes.Cycle objects) = Unit {0}
+Grounded job e path Nodes.Pending = Unit {0}
 
 pub record OpenTree (job : Job) (e : ℕ) (nodes : List Node) : Type 0 where
   pub tree : IsTree job (λ path node. IsSoundNode job e path node × Earned job e path node) [] nodes

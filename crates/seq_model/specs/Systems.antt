@@ -1,15 +1,17 @@
 -- The linear system of a path at an extent.
 --
 --   Row                  c and the coefficients a say that c plus the sum of a * u is at least 0
+--   zeros job            a coefficient 0 for each variable: two for each object
 --   at_most job z bound  bound - u >= 0 for variable z
 --   bounds_of ..         two rows for each object: the region's size less the object's span, in x and in y
 --   side_row job c dir   the later object of the contact stands beyond the side
 --   system job e path    the bounds, then one row for each side of the path in path order
 --   row_value d u row    the value of a row at the point u / d, times d
 --   MeetsRows rows d u   the point u / d has no negative coordinate and meets every row
+--   row_at rows r        row number r
 --   sum_constant, sum_coefficients    of the rows, each times its multiplier
---   Contradiction rows mults     with these multipliers, each at least 0 and of a row, every coefficient sums to at most 0, and the
---                                constants to less than 0
+--   IsTaken rows m       the multiplier is at least 0 and names a row
+--   Contradiction rows mults     with these multipliers every coefficient sums to at most 0, and the constants to less than 0
 --   place_of job e d u o         where object o stands at the point u / d
 --
 -- Variable 2i is object i's x and variable 2i + 1 its y: place + least spot - low corner of the region.

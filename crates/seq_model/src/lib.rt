@@ -4,10 +4,11 @@
 //! extents and parts that move with its nozzle tip. A plan gives each object a place, in printing order.
 //! The types keep their own bounds, so whoever is handed a `Mesh` or a `Printer` has them.
 //!
-//! What a reader of the project has to believe stands in `specs/`, one module for each subject: `Bands` (the corner points
-//! of a band), `Outlines` (its spots, and inner points), `Plates` (the region of an extent) and `Scenes` (collisions, and
-//! when a plan is valid); then `Soundness` and `Jobs`, `Contacts`, `Sides`, `Systems`, `Trees`, `Splits` and `Budgets` for
-//! the search and its certificates, and `Dictionaries` and `Walks` for what a solver does. The only call here is `region`.
+//! What a reader of the project has to believe stands in `specs/`, one module for each subject: `Points`, `Bands` (the corner
+//! points of a band), `Outlines` (its spots, and inner points), `Plates` (the region of an extent) and `Scenes` (collisions,
+//! and when a plan is valid); what the types keep in `Bounds`, `Corners`, `Parts` and `Soundness`; `Jobs`, `Contacts`, `Sides`,
+//! `Systems`, `Trees`, `Splits` and `Budgets` for the search and its certificates; and `Dictionaries` and `Walks` for what a
+//! solver does. The only call here is `region`.
 //! Laws over the definitions stand in `model_laws` and `row_walks`, the worked examples in `model_examples`.
 #![tactic(auto)]
 

@@ -1,0 +1,5 @@
+use Rattle.model_laws.specs.Collisions.{contact_by_bands}
+use Rattle.model_laws.proofs.collisions.a_contact_collides_by_bands_of_its_zones.Goals as goal
+
+pub returns : goal.returns
+returns c = contact_by_bands
