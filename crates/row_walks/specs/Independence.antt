@@ -1,8 +1,15 @@
 -- The free variables of a basis that has a form are independent.
 --
---   IsIndependent vs       no combination of the vectors vanishes, but the one of zeros
+--   IsIndependent vs             no combination of the vectors vanishes, but the one of zeros
 --   vectors_of vars rows basis   one, and what the free variables mean
---   independent            they are independent where the basis has a form
+--   independent                  they are independent where the basis has a form
+--
+--   true_or_false                a test answers one or the other
+--   equal_is, is_equal           what the test of equal numbers says, and back
+--   in_basis, is_in_member       the same of `is_in`
+--   In-filter, In-range          a member that passes a test is kept, and a number of a range is in it
+--   Climbs low end zs            zs rises, from `low` on and below `end`
+--   from_zero                    a list that rises climbs from 0
 use Rattle.std.proofs.Common.{◌≡◌, ℕ, zero, suc, ◌+◌, ◌-◌, ◌<◌, ◌≤◌, List, [], ◌∷◌, length, map, get_or, replicate, refl, ap, sym, subst, ◌∙◌, arith, ℤ, pos, ◌+ℤ◌, ◌*ℤ◌, ◌⊎◌, inl, inr, Bool, true, false, ◌||◌}
 use Rattle.std.proofs.lemmas.Bool.{cases_lt}
 use Rattle.std.proofs.lemmas.Bool.Decides.{nat_tests}

@@ -1,10 +1,11 @@
 -- What is computed of a basis is the step of the walk.
 --
---   Left basis lines z        what is found among the basic variables: Leaves, or NothingLeaves where there is none
---   Entered free numbers z    the same of the free ones: Enters, or NothingEnters
---   Result vars rows basis m  Pivots where m is Some next, and Stops where it is None
---   next_is                   with a form of the basis, m is what is computed just where m is the result
---   same_result               and a basis has one result
+--   Left basis lines z             what is found among the basic variables: Leaves, or NothingLeaves where z is None
+--   Entered free numbers z         the same of the free ones: Enters, or NothingEnters
+--   Swaps basis out into next      `next` has `into` and, but for `out`, what the basis has
+--   Result vars rows basis next    Pivots, or Stops where `next` is None
+--   same_result                    a basis has at most one result
+--   next_is                        with a form of the basis, what is computed is the result
 use Rattle.std.proofs.Common.{◌≡◌, ◌≢◌, ℕ, zero, suc, ◌+◌, ◌<◌, ◌≤◌, List, [], ◌∷◌, length, Contains, refl, ap, sym, subst, ◌∙◌, arith, ℤ, pos, ◌≤ℤ◌, ◌<ℤ◌, ◌⊎◌, inl, inr, Bool, true, false, ◌||◌, ◌&&◌, Option, Some, None, ◌↔◌}
 use Rattle.std.proofs.lemmas.Bool.Decides.{nat_tests}
 use Rattle.std.proofs.lemmas.Int.{ints}
