@@ -5,16 +5,18 @@ use Rattle.std.specs.Prelude.{nat_eq, if◌then◌else◌}
 use lib.Dec.{T}
 use lib.Signed.{le_z_yes}
 use Rattle.model_examples.specs.Solving.{FormIs, one_row, big, wide_rows}
-use Rattle.row_walks.specs.Dictionaries.{Form, WideAt, is_wide, line_of}
-use Rattle.row_walks.specs.OneWalk.{wide_decided}
-use Rattle.row_walks.specs.Walks.{IsNext, IsWide, Walk, WalkWide}
+use Rattle.row_walks.specs.Computed.{is_wide, line_of}
+use Rattle.row_walks.specs.Pivots.{next_is}
+use Rattle.row_walks.specs.Wide.{wide_decided}
+use Rattle.seq_model.specs.Dictionaries.{Form, WideAt}
+use Rattle.seq_model.specs.Walks.{Pivots, Stops, IsWide, Walk, WalkWide}
 
 -- ---- one row
 slack_form : Form 1 one_row (1 ∷ [])
-slack_form = record { d = pos 1; lines = (negsuc 0 ∷ pos 2 ∷ []) ∷ []; many = refl; rising = lit< tt; positive = le_z_yes tt; says = (refl, refl, tt); least = λ k h. eq-one_of_dvd-one h.0 }
+slack_form = record { d = pos 1; lines = (negsuc 0 ∷ pos 2 ∷ []) ∷ []; many = refl; rising = lit< tt; positive = le_z_yes tt; says = ((refl, refl), tt); least = λ k h. eq-one_of_dvd-one h.0 }
 
 half_form : Form 1 one_row (0 ∷ [])
-half_form = record { d = pos 2; lines = (pos 1 ∷ pos 1 ∷ []) ∷ []; many = refl; rising = lit< tt; positive = le_z_yes tt; says = (refl, refl, tt); least = λ k h. eq-one_of_dvd-one (h.1 0 [] (lit< tt) 0 (pos 0) (lit< tt)) }
+half_form = record { d = pos 2; lines = (pos 1 ∷ pos 1 ∷ []) ∷ []; many = refl; rising = lit< tt; positive = le_z_yes tt; says = ((refl, refl), tt); least = λ k h. eq-one_of_dvd-one (h.1 0 [] (lit< tt) 0 (pos 0) (lit< tt)) }
 
 pub first_form : FormIs 1 one_row (1 ∷ []) (pos 1) ((negsuc 0 ∷ pos 2 ∷ []) ∷ [])
 unfolding slack_form
@@ -30,15 +32,22 @@ narrow false t = subst T (sym t) tt
 
 never_wide : IsWide 1 one_row (0 ∷ []) → ⊥
 unfolding half_form
-never_wide w = narrow (nat_eq w.row 0) ((wide_decided 1 one_row (0 ∷ []) half_form w.row).0 w.wide)
+never_wide w = narrow (nat_eq w.0 0) ((wide_decided 1 one_row (0 ∷ []) half_form w.0).0 w.1)
+
+goes_on : Pivots 1 one_row (1 ∷ []) (0 ∷ [])
+unfolding slack_form
+goes_on = (next_is 1 one_row (1 ∷ []) slack_form (Some (0 ∷ []))).0 refl
+
+stops : Stops 1 one_row (0 ∷ [])
+unfolding half_form
+stops = (next_is 1 one_row (0 ∷ []) half_form None).0 refl
 
 pub walk_of_one : Walk 1 one_row (1 ∷ []) ((1 ∷ []) ∷ (0 ∷ []) ∷ [])
-unfolding slack_form half_form
-walk_of_one = record { begins = refl; steps = (record { form = slack_form; is = refl }, never_wide, inl (record { form = half_form; is = refl })) }
+walk_of_one = record { begins = refl; steps = (goes_on, never_wide, inl stops) }
 
 -- ---- a wide row
 two_slacks : Form 2 wide_rows (2 ∷ 3 ∷ [])
-two_slacks = record { d = pos 1; lines = (negsuc 0 ∷ big ∷ pos 0 ∷ []) ∷ (negsuc 1 ∷ pos 1 ∷ pos 3 ∷ []) ∷ []; many = refl; rising = (lit< tt, lit< tt); positive = le_z_yes tt; says = (refl, refl, (refl, refl, tt)); least = λ k h. eq-one_of_dvd-one h.0 }
+two_slacks = record { d = pos 1; lines = (negsuc 0 ∷ big ∷ pos 0 ∷ []) ∷ (negsuc 1 ∷ pos 1 ∷ pos 3 ∷ []) ∷ []; many = refl; rising = (lit< tt, lit< tt); positive = le_z_yes tt; says = ((refl, refl), ((refl, refl), tt)); least = λ k h. eq-one_of_dvd-one h.0 }
 
 wide_form : Form 2 wide_rows (0 ∷ 3 ∷ [])
 wide_form = record {
@@ -47,7 +56,7 @@ wide_form = record {
   many = refl;
   rising = (lit< tt, lit< tt);
   positive = le_z_yes tt;
-  says = (refl, refl, (refl, refl, tt));
+  says = ((refl, refl), ((refl, refl), tt));
   least = λ k h. eq-one_of_dvd-one (h.1 0 [] (lit< tt) 0 (pos 0) (lit< tt));
 }
 
@@ -57,11 +66,11 @@ wide_form_is = record { form = wide_form; d_is = refl; lines_are = refl }
 
 pub wide_at_3 : WideAt 2 wide_rows (0 ∷ 3 ∷ []) 3
 unfolding wide_form
-wide_at_3 = record { form = wide_form; wide = refl }
+wide_at_3 = (wide_decided 2 wide_rows (0 ∷ 3 ∷ []) wide_form 3).1 refl
 
-pivots : IsNext 2 wide_rows (2 ∷ 3 ∷ []) (Some (0 ∷ 3 ∷ []))
+pivots : Pivots 2 wide_rows (2 ∷ 3 ∷ []) (0 ∷ 3 ∷ [])
 unfolding two_slacks
-pivots = record { form = two_slacks; is = refl }
+pivots = (next_is 2 wide_rows (2 ∷ 3 ∷ []) two_slacks (Some (0 ∷ 3 ∷ []))).0 refl
 
 narrow_below : (r : ℕ) → r < 3 → IsTrue (is_wide wide_form.d (line_of r (0 ∷ 3 ∷ []) wide_form.lines)) → ⊥
 unfolding wide_form
@@ -74,7 +83,7 @@ pub walk_wide : WalkWide 2 wide_rows (0 ∷ 3 ∷ []) 3
 walk_wide = record {
   before = [];
   last = 2 ∷ 3 ∷ [];
-  walk = record { begins = refl; steps = inr (record { next = 0 ∷ 3 ∷ []; is_next = pivots; wide = record { row = 3; wide = wide_at_3 } }) };
+  walk = record { begins = refl; steps = inr (0 ∷ 3 ∷ [], pivots, (3, wide_at_3)) };
   next = pivots;
   wide = wide_at_3;
   least = λ r w. le_from_not r 3 (λ l. narrow_below r l ((wide_decided 2 wide_rows (0 ∷ 3 ∷ []) wide_form r).0 w));

@@ -5,35 +5,35 @@ use Rattle.std.specs.Prelude.{neg_ℤ}
 use lib.Dec.{T}
 use lib.Signed.{le_z_yes}
 use Rattle.model_examples.specs.Solving.{edge, below_edge, row_of}
-use Rattle.row_walks.specs.Dictionaries.{Form, WideAt}
-use Rattle.row_walks.specs.OneWalk.{wide_decided}
+use Rattle.row_walks.specs.Wide.{wide_decided}
+use Rattle.seq_model.specs.Dictionaries.{Form, WideAt}
 
 -- where the slack is basic, its line is the row
 entry_form : Form 1 (row_of (negsuc 0) edge) (1 ∷ [])
-entry_form = record { d = pos 1; lines = (negsuc 0 ∷ edge ∷ []) ∷ []; many = refl; rising = lit< tt; positive = le_z_yes tt; says = (refl, refl, tt); least = λ k h. eq-one_of_dvd-one h.0 }
+entry_form = record { d = pos 1; lines = (negsuc 0 ∷ edge ∷ []) ∷ []; many = refl; rising = lit< tt; positive = le_z_yes tt; says = ((refl, refl), tt); least = λ k h. eq-one_of_dvd-one h.0 }
 
 low_entry_form : Form 1 (row_of (negsuc 0) below_edge) (1 ∷ [])
-low_entry_form = record { d = pos 1; lines = (negsuc 0 ∷ below_edge ∷ []) ∷ []; many = refl; rising = lit< tt; positive = le_z_yes tt; says = (refl, refl, tt); least = λ k h. eq-one_of_dvd-one h.0 }
+low_entry_form = record { d = pos 1; lines = (negsuc 0 ∷ below_edge ∷ []) ∷ []; many = refl; rising = lit< tt; positive = le_z_yes tt; says = ((refl, refl), tt); least = λ k h. eq-one_of_dvd-one h.0 }
 
 sized_form : Form 1 (row_of (negsuc 0) (neg_ℤ edge)) (1 ∷ [])
-sized_form = record { d = pos 1; lines = (negsuc 0 ∷ neg_ℤ edge ∷ []) ∷ []; many = refl; rising = lit< tt; positive = le_z_yes tt; says = (refl, refl, tt); least = λ k h. eq-one_of_dvd-one h.0 }
+sized_form = record { d = pos 1; lines = (negsuc 0 ∷ neg_ℤ edge ∷ []) ∷ []; many = refl; rising = lit< tt; positive = le_z_yes tt; says = ((refl, refl), tt); least = λ k h. eq-one_of_dvd-one h.0 }
 
 constant_form : Form 1 (row_of (neg_ℤ edge) (pos 1)) (1 ∷ [])
-constant_form = record { d = pos 1; lines = (neg_ℤ edge ∷ pos 1 ∷ []) ∷ []; many = refl; rising = lit< tt; positive = le_z_yes tt; says = (refl, refl, tt); least = λ k h. eq-one_of_dvd-one h.0 }
+constant_form = record { d = pos 1; lines = (neg_ℤ edge ∷ pos 1 ∷ []) ∷ []; many = refl; rising = lit< tt; positive = le_z_yes tt; says = ((refl, refl), tt); least = λ k h. eq-one_of_dvd-one h.0 }
 
 low_constant_form : Form 1 (row_of (neg_ℤ below_edge) (pos 1)) (1 ∷ [])
-low_constant_form = record { d = pos 1; lines = (neg_ℤ below_edge ∷ pos 1 ∷ []) ∷ []; many = refl; rising = lit< tt; positive = le_z_yes tt; says = (refl, refl, tt); least = λ k h. eq-one_of_dvd-one h.0 }
+low_constant_form = record { d = pos 1; lines = (neg_ℤ below_edge ∷ pos 1 ∷ []) ∷ []; many = refl; rising = lit< tt; positive = le_z_yes tt; says = ((refl, refl), tt); least = λ k h. eq-one_of_dvd-one h.0 }
 
 -- where u is basic, the coefficient times u is 1 plus the slack
 denominator_form : Form 1 (row_of (negsuc 0) edge) (0 ∷ [])
-denominator_form = record { d = edge; lines = (pos 1 ∷ pos 1 ∷ []) ∷ []; many = refl; rising = lit< tt; positive = le_z_yes tt; says = (refl, refl, tt); least = λ k h. eq-one_of_dvd-one (h.1 0 [] (lit< tt) 0 (pos 0) (lit< tt)) }
+denominator_form = record { d = edge; lines = (pos 1 ∷ pos 1 ∷ []) ∷ []; many = refl; rising = lit< tt; positive = le_z_yes tt; says = ((refl, refl), tt); least = λ k h. eq-one_of_dvd-one (h.1 0 [] (lit< tt) 0 (pos 0) (lit< tt)) }
 
 low_denominator_form : Form 1 (row_of (negsuc 0) below_edge) (0 ∷ [])
-low_denominator_form = record { d = below_edge; lines = (pos 1 ∷ pos 1 ∷ []) ∷ []; many = refl; rising = lit< tt; positive = le_z_yes tt; says = (refl, refl, tt); least = λ k h. eq-one_of_dvd-one (h.1 0 [] (lit< tt) 0 (pos 0) (lit< tt)) }
+low_denominator_form = record { d = below_edge; lines = (pos 1 ∷ pos 1 ∷ []) ∷ []; many = refl; rising = lit< tt; positive = le_z_yes tt; says = ((refl, refl), tt); least = λ k h. eq-one_of_dvd-one (h.1 0 [] (lit< tt) 0 (pos 0) (lit< tt)) }
 
 pub entry : WideAt 1 (row_of (negsuc 0) edge) (1 ∷ []) 1
 unfolding entry_form
-entry = record { form = entry_form; wide = refl }
+entry = (wide_decided 1 (row_of (negsuc 0) edge) (1 ∷ []) entry_form 1).1 refl
 
 pub entry_below : WideAt 1 (row_of (negsuc 0) below_edge) (1 ∷ []) 1 → ⊥
 unfolding low_entry_form
@@ -41,11 +41,11 @@ entry_below w = subst T (sym ((wide_decided 1 (row_of (negsuc 0) below_edge) (1 
 
 pub entry_of_this_size : WideAt 1 (row_of (negsuc 0) (neg_ℤ edge)) (1 ∷ []) 1
 unfolding sized_form
-entry_of_this_size = record { form = sized_form; wide = refl }
+entry_of_this_size = (wide_decided 1 (row_of (negsuc 0) (neg_ℤ edge)) (1 ∷ []) sized_form 1).1 refl
 
 pub constant : WideAt 1 (row_of (neg_ℤ edge) (pos 1)) (1 ∷ []) 1
 unfolding constant_form
-constant = record { form = constant_form; wide = refl }
+constant = (wide_decided 1 (row_of (neg_ℤ edge) (pos 1)) (1 ∷ []) constant_form 1).1 refl
 
 pub constant_below : WideAt 1 (row_of (neg_ℤ below_edge) (pos 1)) (1 ∷ []) 1 → ⊥
 unfolding low_constant_form
@@ -53,7 +53,7 @@ constant_below w = subst T (sym ((wide_decided 1 (row_of (neg_ℤ below_edge) (p
 
 pub denominator : WideAt 1 (row_of (negsuc 0) edge) (0 ∷ []) 0
 unfolding denominator_form
-denominator = record { form = denominator_form; wide = refl }
+denominator = (wide_decided 1 (row_of (negsuc 0) edge) (0 ∷ []) denominator_form 0).1 refl
 
 pub denominator_below : WideAt 1 (row_of (negsuc 0) below_edge) (0 ∷ []) 0 → ⊥
 unfolding low_denominator_form

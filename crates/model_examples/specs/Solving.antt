@@ -6,7 +6,7 @@
 --   big, wide_rows                   2^61, and the rows -1 + 2^61 u >= 0 and -2 + u + 3 v >= 0
 use Rattle.std.specs.Prelude.{◌≡◌, ℕ, ◌^◌, ◌-◌, List, [], ◌∷◌, ℤ, pos, negsuc}
 use Rattle.model_examples.specs.Rows.{row}
-use Rattle.row_walks.specs.Dictionaries.{Form}
+use Rattle.seq_model.specs.Dictionaries.{Form}
 use Rattle.seq_model.specs.Systems.{Row}
 
 pub record FormIs (vars : ℕ) (rows : List Row) (basis : List ℕ) (d : ℤ) (lines : List (List ℤ)) : Type 0 where

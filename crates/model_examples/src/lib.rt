@@ -1,6 +1,6 @@
 //! The worked examples of the definitions.
 //!
-//! Each call does nothing, and its contract says what the definitions of `seq_model` and `row_walks` mean at numbers that
+//! Each call does nothing, and its contract says what the definitions of `seq_model` mean at numbers that
 //! were worked out by hand: which points are inner, when two cubes collide, the system of a path, a tree that refutes an
 //! extent, a walk of bases. `specs/Cubes.antt` and `specs/Jobs.antt` have the cubes, the wedges, their printer and their jobs, and
 //! `specs/Uneven.antt` a job in which nothing is symmetric.

@@ -1,9 +1,9 @@
 //! Walks from basis to basis.
 
 ghost use Rattle.std.specs.Prelude.{[], ◌∷◌, pos, negsuc, neg_ℤ, ◌-ℤ◌, ◌*ℤ◌};
-ghost use Rattle.row_walks.specs.Dictionaries.{WideAt};
-ghost use Rattle.row_walks.specs.Walks.{Walk, WalkWide};
 ghost use Rattle.model_examples.specs.Solving.{FormIs, one_row, big, wide_rows, row_of, edge, below_edge};
+ghost use Rattle.seq_model.specs.Dictionaries.{WideAt};
+ghost use Rattle.seq_model.specs.Walks.{Walk, WalkWide};
 
 /// `-1 + 2 u >= 0` is met at u = 1/2. Variable 0 is u and variable 1 the slack. First the slack is -1 + 2 u; it leaves, u enters, and
 /// 2 u is 1 plus the slack.

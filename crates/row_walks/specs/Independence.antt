@@ -1,8 +1,15 @@
 -- The free variables of a basis that has a form are independent.
 --
---   IsIndependent vs       no combination of the vectors vanishes, but the one of zeros
+--   IsIndependent vs             no combination of the vectors vanishes, but the one of zeros
 --   vectors_of vars rows basis   one, and what the free variables mean
---   independent            they are independent where the basis has a form
+--   independent                  they are independent where the basis has a form
+--
+--   true_or_false                a test answers one or the other
+--   equal_is, is_equal           what the test of equal numbers says, and back
+--   in_basis, is_in_member       the same of `is_in`
+--   In-filter, In-range          a member that passes a test is kept, and a number of a range is in it
+--   Climbs low end zs            zs rises, from `low` on and below `end`
+--   from_zero                    a list that rises climbs from 0
 use Rattle.std.proofs.Common.{◌≡◌, ℕ, zero, suc, ◌+◌, ◌-◌, ◌<◌, ◌≤◌, List, [], ◌∷◌, length, map, get_or, replicate, refl, ap, sym, subst, ◌∙◌, arith, ℤ, pos, ◌+ℤ◌, ◌*ℤ◌, ◌⊎◌, inl, inr, Bool, true, false, ◌||◌}
 use Rattle.std.proofs.lemmas.Bool.{cases_lt}
 use Rattle.std.proofs.lemmas.Bool.Decides.{nat_tests}
@@ -16,8 +23,8 @@ use Rattle.integer_laws.specs.Members.{In, In-map}
 use Rattle.integer_laws.specs.Ring.{expand}
 use Rattle.integer_laws.specs.Vectors.{dot, scale, unit, dot-plus, dot-scale, dot-unit}
 use lib.Dec.{T}
-use Rattle.row_walks.specs.Dictionaries.{meaning, one, combination, is_in, free_of, Says, Rises, Form}
 use Rattle.row_walks.specs.Kernel.{Kernel, kernel, zero_or_not, cancel_factor}
+use Rattle.seq_model.specs.Dictionaries.{meaning, one, combination, is_in, free_of, Says, Rises, Form}
 use Rattle.seq_model.specs.Systems.{Row, row_at}
 
 abbrev pub IsIndependent : List (List ℤ) → Type 0
@@ -133,6 +140,9 @@ true_or_false false = inr refl
 pub equal_is : (x y : ℕ) → nat_eq x y ≡ true → x ≡ y
 equal_is x y e = grind (arith, nat_tests)
 
+pub is_equal : (x y : ℕ) → x ≡ y → nat_eq x y ≡ true
+is_equal x y e = grind (arith, nat_tests)
+
 pub in_basis : (basis : List ℕ) (z : ℕ) → is_in basis z ≡ true → In z basis
 in_basis [] z e = absurd (subst T (sym e) tt)
 in_basis (b ∷ basis) z e = by (true_or_false (nat_eq z b)) (in_basis basis z)
@@ -143,10 +153,7 @@ in_basis (b ∷ basis) z e = by (true_or_false (nat_eq z b)) (in_basis basis z)
 
 pub is_in_member : (basis : List ℕ) (z : ℕ) → In z basis → is_in basis z ≡ true
 is_in_member [] z i = absurd i
-is_in_member (b ∷ basis) z (inl s) = ap (λ t. t || is_in basis z) (same z b s)
-  where
-    same : (z b : ℕ) → z ≡ b → nat_eq z b ≡ true
-    same z b e = grind (arith, nat_tests)
+is_in_member (b ∷ basis) z (inl s) = ap (λ t. t || is_in basis z) (is_equal z b s)
 is_in_member (b ∷ basis) z (inr i) = ap (λ t. nat_eq z b || t) (is_in_member basis z i) ∙ any (nat_eq z b)
   where
     any : (b : Bool) → (b || true) ≡ true
@@ -212,8 +219,8 @@ says_of : (vars : ℕ) (rows : List Row) (d : ℤ) (free basis : List ℕ) (line
     → (line : List ℤ) × (scale d (meaning vars rows z) ≡ combination line (one vars ∷ map (meaning vars rows) free))
 says_of vars rows d free [] lines s z i = absurd i
 says_of vars rows d free (b ∷ basis) [] s z i = absurd s
-says_of vars rows d free (b ∷ basis) (line ∷ lines) s z (inl e) = (line, ap (λ t. scale d (meaning vars rows t)) e ∙ s.1)
-says_of vars rows d free (b ∷ basis) (line ∷ lines) s z (inr i) = says_of vars rows d free basis lines s.2 z i
+says_of vars rows d free (b ∷ basis) (line ∷ lines) s z (inl e) = (line, ap (λ t. scale d (meaning vars rows t)) e ∙ s.0.1)
+says_of vars rows d free (b ∷ basis) (line ∷ lines) s z (inr i) = says_of vars rows d free basis lines s.1 z i
 
 variable_is : (vars : ℕ) (rows : List Row) (z : ℕ) → z < vars → meaning vars rows z ≡ unit (suc vars) (suc z)
 variable_is vars rows z h = ap (λ (b : Bool). if b then pos 0 ∷ slice_set (replicate vars (pos 0)) z (pos 1) else (row_at rows (z - vars)).c ∷ (row_at rows (z - vars)).a) (below z vars h)

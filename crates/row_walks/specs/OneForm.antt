@@ -11,8 +11,8 @@ use Rattle.integer_laws.specs.Divisors.{gcd_is, gcd_mul}
 use Rattle.integer_laws.specs.Order.{cancel_same}
 use Rattle.integer_laws.specs.Ring.{expand}
 use Rattle.integer_laws.specs.Vectors.{scale, combined, get_or-plus, get_or-scale, get_or-combined, length-combined}
-use Rattle.row_walks.specs.Dictionaries.{Form, Says, combination, one, meaning, free_of, DividesAll}
 use Rattle.row_walks.specs.Independence.{IsIndependent, independent}
+use Rattle.seq_model.specs.Dictionaries.{Form, Says, combination, one, meaning, free_of, DividesAll}
 use Rattle.seq_model.specs.Systems.{Row}
 
 -- ---- a combination of combined numbers
@@ -54,8 +54,8 @@ all_proportional vars rows d c free i (z ∷ basis) [] M s t r j = absurd s
 all_proportional vars rows d c free i (z ∷ basis) (l ∷ L) [] s t r j = absurd t
 all_proportional vars rows d c free i (z ∷ basis) (l ∷ L) (m ∷ M) s t zero j =
     let long = length-map free (meaning vars rows) in
-    lines_proportional d c l m (meaning vars rows z) (one vars ∷ map (meaning vars rows) free) i (s.0 ∙ ap suc (sym long)) (t.0 ∙ ap suc (sym long)) s.1 t.1 j
-all_proportional vars rows d c free i (z ∷ basis) (l ∷ L) (m ∷ M) s t (suc r) j = all_proportional vars rows d c free i basis L M s.2 t.2 r j
+    lines_proportional d c l m (meaning vars rows z) (one vars ∷ map (meaning vars rows) free) i (s.0.0 ∙ ap suc (sym long)) (t.0.0 ∙ ap suc (sym long)) s.0.1 t.0.1 j
+all_proportional vars rows d c free i (z ∷ basis) (l ∷ L) (m ∷ M) s t (suc r) j = all_proportional vars rows d c free i basis L M s.1 t.1 r j
 
 list_same : (a b : List ℤ) → length a ≡ length b → ((j : ℕ) → get_or a j (pos 0) ≡ get_or b j (pos 0)) → a ≡ b
 list_same [] [] l h = refl
@@ -71,7 +71,7 @@ lines_same vars rows d free p [] (l ∷ L) M s t h = absurd s
 lines_same vars rows d free p (z ∷ basis) [] M s t h = absurd s
 lines_same vars rows d free p (z ∷ basis) (l ∷ L) [] s t h = absurd t
 lines_same vars rows d free p (z ∷ basis) (l ∷ L) (m ∷ M) s t h =
-    ap (λ u. u ∷ L) (list_same l m (s.0 ∙ sym t.0) (λ j. cancel_same d p (h 0 j))) ∙ ap (λ u. m ∷ u) (lines_same vars rows d free p basis L M s.2 t.2 (λ r j. h (suc r) j))
+    ap (λ u. u ∷ L) (list_same l m (s.0.0 ∙ sym t.0.0) (λ j. cancel_same d p (h 0 j))) ∙ ap (λ u. m ∷ u) (lines_same vars rows d free p basis L M s.1 t.1 (λ r j. h (suc r) j))
 
 any_default : {X : Type 0} (xs : List X) (k : ℕ) (a b : X) → k < length xs → get_or xs k a ≡ get_or xs k b
 any_default [] k a b h = absurd (omega (arith, h))

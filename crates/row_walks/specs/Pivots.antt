@@ -1,16 +1,12 @@
--- A step of the walk in plain words.
+-- What is computed of a basis is the step of the walk.
 --
---   Has zs xs z x               z is one of the variables zs, and x stands at its place in xs
---   constant line, entries line a line is a constant and then the entries of the free variables
---   Leaves basis lines z        z is the least-numbered basic variable with a negative constant
---   Enters free entries z       z is the least-numbered free variable with a positive entry
---   Pivots vars rows basis next one leaves, one enters in its row, and the rising list next has the one in place of the other
---   Stops vars rows basis       no constant is negative, or nothing can enter in the row of what would leave
---
---   Result vars rows basis m    Pivots where m is Some next, and Stops where it is None
---   step_in_words               that is what IsNext says
---   EndsAt vars rows basis      the basis stops, or the next one is wide at some row
-use Rattle.std.proofs.Common.{◌≡◌, ◌≢◌, ℕ, zero, suc, ◌+◌, ◌<◌, ◌≤◌, List, [], ◌∷◌, length, get_or, drop, refl, ap, sym, subst, ◌∙◌, arith, ℤ, pos, ◌≤ℤ◌, ◌<ℤ◌, ◌⊎◌, inl, inr, Bool, true, false, ◌||◌, ◌&&◌, Option, Some, None, ◌↔◌}
+--   Left basis lines z             what is found among the basic variables: Leaves, or NothingLeaves where z is None
+--   Entered free numbers z         the same of the free ones: Enters, or NothingEnters
+--   Swaps basis out into next      `next` has `into` and, but for `out`, what the basis has
+--   Result vars rows basis next    Pivots, or Stops where `next` is None
+--   same_result                    a basis has at most one result
+--   next_is                        with a form of the basis, what is computed is the result
+use Rattle.std.proofs.Common.{◌≡◌, ◌≢◌, ℕ, zero, suc, ◌+◌, ◌<◌, ◌≤◌, List, [], ◌∷◌, length, Contains, refl, ap, sym, subst, ◌∙◌, arith, ℤ, pos, ◌≤ℤ◌, ◌<ℤ◌, ◌⊎◌, inl, inr, Bool, true, false, ◌||◌, ◌&&◌, Option, Some, None, ◌↔◌}
 use Rattle.std.proofs.lemmas.Bool.Decides.{nat_tests}
 use Rattle.std.proofs.lemmas.Int.{ints}
 use Rattle.std.specs.Int.Signed.{lt_z}
@@ -18,62 +14,16 @@ use Rattle.std.specs.Prelude.{not, nat_eq, cond, if◌then◌else◌}
 use Rattle.std.specs.List.{filter, range_with_len}
 use lib.Dec.{T}
 use lib.Signed.{lt_z_yes, lt_z_no}
-use Rattle.integer_laws.specs.Members.{In}
-use Rattle.row_walks.specs.Dictionaries.{is_in, free_of, line_of, Rises, Form}
-use Rattle.row_walks.specs.Independence.{equal_is, in_basis, is_in_member, In-filter, In-range, Climbs, from_zero}
+use Rattle.integer_laws.specs.Members.{In, In-from_contains, Contains-from_in}
+use Rattle.row_walks.specs.Computed.{has_negative_constant, line_of, leaving, first_positive, entering, swapped, after_entering, after_leaving, next_basis}
+use Rattle.row_walks.specs.Independence.{is_equal, equal_is, in_basis, is_in_member, In-filter, In-range, Climbs, from_zero}
+use Rattle.row_walks.specs.Lines.{at_least, has_same, member, line_of_has}
 use Rattle.row_walks.specs.OneForm.{one_form}
-use Rattle.row_walks.specs.Walks.{has_negative_constant, leaving, first_positive, entering, swapped, after_entering, after_leaving, next_basis, IsNext, IsWide, IsBlocked, Steps}
+use Rattle.seq_model.specs.Dictionaries.{is_in, free_of, Rises, Form, Has}
 use Rattle.seq_model.specs.Systems.{Row}
-
-abbrev pub Has : {X : Type 0} → List ℕ → List X → ℕ → X → Type 0
-Has [] xs z x = ⊥
-Has (y ∷ zs) [] z x = ⊥
-Has (y ∷ zs) (w ∷ xs) z x = ((z ≡ y) × (x ≡ w)) ⊎ Has zs xs z x
-
-abbrev pub constant : List ℤ → ℤ
-constant line = get_or line 0 (pos 0)
-
-abbrev pub entries : List ℤ → List ℤ
-entries line = drop 1 line
-
-pub record Leaves (basis : List ℕ) (lines : List (List ℤ)) (z : ℕ) : Type 0 where
-  pub line : List ℤ
-  pub has : Has basis lines z line
-  pub negative : constant line <ℤ pos 0
-  pub least : (y : ℕ) (other : List ℤ) → Has basis lines y other → constant other <ℤ pos 0 → z ≤ y
-
-pub record Enters (free : List ℕ) (numbers : List ℤ) (z : ℕ) : Type 0 where
-  pub entry : ℤ
-  pub has : Has free numbers z entry
-  pub positive : pos 0 <ℤ entry
-  pub least : (y : ℕ) (other : ℤ) → Has free numbers y other → pos 0 <ℤ other → z ≤ y
-
-pub record Pivots (vars : ℕ) (rows : List Row) (basis next : List ℕ) : Type 0 where
-  pub form : Form vars rows basis
-  pub out : ℕ
-  pub into : ℕ
-  pub leaves : Leaves basis form.lines out
-  pub enters : Enters (free_of (vars + length rows) basis) (entries leaves.line) into
-  pub rises : Rises (vars + length rows) next
-  pub swaps : (z : ℕ) → In z next ↔ ((z ≡ into) ⊎ (In z basis × (z ≢ out)))
-
-abbrev pub NothingLeaves : List ℕ → List (List ℤ) → Type 0
-NothingLeaves basis lines = (z : ℕ) (line : List ℤ) → Has basis lines z line → pos 0 ≤ℤ constant line
-
-abbrev pub NothingEnters : List ℕ → List ℤ → Type 0
-NothingEnters free numbers = (z : ℕ) (entry : ℤ) → Has free numbers z entry → entry ≤ℤ pos 0
-
-pub record Stops (vars : ℕ) (rows : List Row) (basis : List ℕ) : Type 0 where
-  pub form : Form vars rows basis
-  pub stops : NothingLeaves basis form.lines ⊎ ((out : ℕ) × (leaves : Leaves basis form.lines out) × NothingEnters (free_of (vars + length rows) basis) (entries leaves.line))
+use Rattle.seq_model.specs.Walks.{constant, entries, Leaves, Enters, NothingLeaves, NothingEnters, Pivots, Stops}
 
 -- ---- rising variables
-at_least : {X : Type 0} (low end : ℕ) (zs : List ℕ) (xs : List X) (y : ℕ) (x : X) → Climbs low end zs → Has zs xs y x → low ≤ y
-at_least low end [] xs y x c h = absurd h
-at_least low end (z ∷ zs) [] y x c h = absurd h
-at_least low end (z ∷ zs) (w ∷ xs) y x c (inl s) = omega (arith, c.0, s.0)
-at_least low end (z ∷ zs) (w ∷ xs) y x c (inr h) = let r = at_least (z + 1) end zs xs y x c.2 h in omega (arith, r, c.0)
-
 lower : (low end : ℕ) (zs : List ℕ) → Climbs (low + 1) end zs → Climbs low end zs
 lower low end [] c = tt
 lower low end (z ∷ zs) c = (omega (arith, c.0), c.1, c.2)
@@ -167,29 +117,10 @@ entered low end (z ∷ free) (n ∷ numbers) c = by (lt_z (pos 0) n) refl (first
     by false e found l = later e found l
 
 -- ---- the line of what leaves, and the next basis
-line_of_has : (low end : ℕ) (basis : List ℕ) (lines : List (List ℤ)) (z : ℕ) (line : List ℤ) → Climbs low end basis → Has basis lines z line → line_of z basis lines ≡ Some line
-line_of_has low end [] lines z line c h = absurd h
-line_of_has low end (y ∷ basis) [] z line c h = absurd h
-line_of_has low end (y ∷ basis) (l ∷ lines) z line c (inl s) = ap (λ b. if b then Some l else line_of z basis lines) (same z y s.0) ∙ ap Some (sym s.1)
-  where
-    same : (z y : ℕ) → z ≡ y → nat_eq z y ≡ true
-    same z y e = grind (arith, nat_tests)
-line_of_has low end (y ∷ basis) (l ∷ lines) z line c (inr h) =
-    ap (λ b. if b then Some l else line_of z basis lines) (other z y (at_least (y + 1) end basis lines z line c.2 h)) ∙ line_of_has (y + 1) end basis lines z line c.2 h
-  where
-    other : (z y : ℕ) → y + 1 ≤ z → nat_eq z y ≡ false
-    other z y e = grind (arith, nat_tests)
-
 entering_is : (free : List ℕ) (line : List ℤ) → entering free (Some line) ≡ first_positive free (entries line)
 entering_is [] [] = refl
 entering_is (z ∷ free) [] = refl
 entering_is free (c ∷ rest) = refl
-
-member : {X : Type 0} (zs : List ℕ) (xs : List X) (z : ℕ) (x : X) → Has zs xs z x → In z zs
-member [] xs z x h = absurd h
-member (y ∷ zs) [] z x h = absurd h
-member (y ∷ zs) (w ∷ xs) z x (inl s) = inl s.0
-member (y ∷ zs) (w ∷ xs) z x (inr h) = inr (member zs xs z x h)
 
 below : (low end : ℕ) (zs : List ℕ) (z : ℕ) → Climbs low end zs → In z zs → (low ≤ z) × (z < end)
 below low end [] z c i = absurd i
@@ -205,8 +136,8 @@ of_filter p (x ∷ xs) z i = by (p x) refl i (of_filter p xs z)
     by true e (inr j) later = later j
     by false e j later = later j
 
-swapped_is : (count : ℕ) (basis : List ℕ) (out into : ℕ) → Climbs 0 count basis → into < count → (z : ℕ) → In z (swapped count basis out into) ↔ ((z ≡ into) ⊎ (In z basis × (z ≢ out)))
-swapped_is count basis out into c small z = (there, back)
+swapped_members : (count : ℕ) (basis : List ℕ) (out into : ℕ) → Climbs 0 count basis → into < count → (z : ℕ) → In z (swapped count basis out into) ↔ ((z ≡ into) ⊎ (In z basis × (z ≢ out)))
+swapped_members count basis out into c small z = (there, back)
   where
     read : (a b d : Bool) → (a || (b && not d)) ≡ true → (a ≡ true) ⊎ ((b ≡ true) × (d ≡ false))
     read true b d e = inl refl
@@ -215,10 +146,7 @@ swapped_is count basis out into c small z = (there, back)
     read false false d e = absurd (subst T (sym e) tt)
 
     differs : nat_eq z out ≡ false → z ≢ out
-    differs e s = absurd (subst T (sym (equal z out s) ∙ e) tt)
-      where
-        equal : (z y : ℕ) → z ≡ y → nat_eq z y ≡ true
-        equal z y e = grind (arith, nat_tests)
+    differs e s = absurd (subst T (sym (is_equal z out s) ∙ e) tt)
 
     there : In z (swapped count basis out into) → (z ≡ into) ⊎ (In z basis × (z ≢ out))
     there i = by (read (nat_eq z into) (is_in basis z) (nat_eq z out) (of_filter (λ y. nat_eq y into || (is_in basis y && not (nat_eq y out))) (range_with_len 0 count) z i))
@@ -231,10 +159,7 @@ swapped_is count basis out into c small z = (there, back)
     taken h e = In-filter (λ y. nat_eq y into || (is_in basis y && not (nat_eq y out))) (range_with_len 0 count) z e (In-range 0 count z (omega arith) (omega (arith, h)))
 
     back : ((z ≡ into) ⊎ (In z basis × (z ≢ out))) → In z (swapped count basis out into)
-    back (inl s) = taken (omega (arith, s, small)) (ap (λ b. b || (is_in basis z && not (nat_eq z out))) (equal z into s))
-      where
-        equal : (z y : ℕ) → z ≡ y → nat_eq z y ≡ true
-        equal z y e = grind (arith, nat_tests)
+    back (inl s) = taken (omega (arith, s, small)) (ap (λ b. b || (is_in basis z && not (nat_eq z out))) (is_equal z into s))
     back (inr k) = taken (below 0 count basis z c k.0).1 (last (nat_eq z into) (is_in basis z) (nat_eq z out) (is_in_member basis z k.0) (other z out k.1))
       where
         last : (a b d : Bool) → b ≡ true → d ≡ false → (a || (b && not d)) ≡ true
@@ -243,6 +168,26 @@ swapped_is count basis out into c small z = (there, back)
 
         other : (z y : ℕ) → z ≢ y → nat_eq z y ≡ false
         other z y n = grind (arith, nat_tests, n)
+
+abbrev Swaps : List ℕ → ℕ → ℕ → List ℕ → Type 0
+Swaps basis out into next = (z : ℕ) → Contains next z ↔ ((z ≡ into) ⊎ (Contains basis z × (z ≢ out)))
+
+swapped_is : (count : ℕ) (basis : List ℕ) (out into : ℕ) → Climbs 0 count basis → into < count → Swaps basis out into (swapped count basis out into)
+swapped_is count basis out into c small z = (λ k. there (m.0 (In-from_contains next z k)), λ k. Contains-from_in next z (m.1 (back k)))
+  where
+    next : List ℕ
+    next = swapped count basis out into
+
+    m : In z next ↔ ((z ≡ into) ⊎ (In z basis × (z ≢ out)))
+    m = swapped_members count basis out into c small z
+
+    there : ((z ≡ into) ⊎ (In z basis × (z ≢ out))) → (z ≡ into) ⊎ (Contains basis z × (z ≢ out))
+    there (inl e) = inl e
+    there (inr k) = inr (Contains-from_in basis z k.0, k.1)
+
+    back : ((z ≡ into) ⊎ (Contains basis z × (z ≢ out))) → (z ≡ into) ⊎ (In z basis × (z ≢ out))
+    back (inl e) = inl e
+    back (inr k) = inr (In-from_contains basis z k.0, k.1)
 
 -- ---- what is computed is one or the other
 abbrev pub Result : ℕ → List Row → List ℕ → Option (List ℕ) → Type 0
@@ -281,14 +226,6 @@ result vars rows basis f = by (leaving basis f.lines) (left 0 (vars + length row
         (goes_in out l (first_positive free (entries l.line)) (entered 0 (vars + length rows) free (entries l.line) (free_climbs (vars + length rows) basis)))
 
 -- ---- and it is one alone
-has_same : {X : Type 0} (low end : ℕ) (zs : List ℕ) (xs : List X) (z : ℕ) (x y : X) → Climbs low end zs → Has zs xs z x → Has zs xs z y → x ≡ y
-has_same low end [] xs z x y c h k = absurd h
-has_same low end (a ∷ zs) [] z x y c h k = absurd h
-has_same low end (a ∷ zs) (w ∷ xs) z x y c (inl s) (inl t) = s.1 ∙ sym t.1
-has_same low end (a ∷ zs) (w ∷ xs) z x y c (inl s) (inr k) = let l = at_least (a + 1) end zs xs z y c.2 k in absurd (omega (arith, l, s.0))
-has_same low end (a ∷ zs) (w ∷ xs) z x y c (inr h) (inl t) = let l = at_least (a + 1) end zs xs z x c.2 h in absurd (omega (arith, l, t.0))
-has_same low end (a ∷ zs) (w ∷ xs) z x y c (inr h) (inr k) = has_same (a + 1) end zs xs z x y c.2 h k
-
 rising_same : (low end : ℕ) (a b : List ℕ) → Climbs low end a → Climbs low end b → ((z : ℕ) → In z a → In z b) → ((z : ℕ) → In z b → In z a) → a ≡ b
 rising_same low end [] [] c d f g = refl
 rising_same low end [] (y ∷ b) c d f g = absurd (g y (inl refl))
@@ -310,6 +247,12 @@ rising_same low end (x ∷ a) (y ∷ b) c d f g =
     outer : (z : ℕ) → y + 1 ≤ z → (z ≡ x) ⊎ In z a → In z a
     outer z h (inl s) = absurd (omega (arith, h, s, same))
     outer z h (inr i) = i
+
+same_swap : (end : ℕ) (basis : List ℕ) (out into : ℕ) (a b : List ℕ) → Rises end a → Rises end b → Swaps basis out into a → Swaps basis out into b → a ≡ b
+same_swap end basis out into a b r t f g = rising_same 0 end a b (from_zero end a r) (from_zero end b t) (λ z. one_way a b z (f z).0 (g z).1) (λ z. one_way b a z (g z).0 (f z).1)
+  where
+    one_way : (c d : List ℕ) (z : ℕ) → (Contains c z → (z ≡ into) ⊎ (Contains basis z × (z ≢ out))) → ((z ≡ into) ⊎ (Contains basis z × (z ≢ out)) → Contains d z) → In z c → In z d
+    one_way c d z there back i = In-from_contains d z (back (there (Contains-from_in c z i)))
 
 -- what leaves and enters, in one form's lines
 abbrev Moves : List ℕ → List ℕ → List (List ℤ) → ℕ → ℕ → Type 0
@@ -342,7 +285,7 @@ no_halt end basis free lines a i c m (inr k) =
     let p = e.positive in
     absurd (omega (arith, ints, h, p))
 
-same_result : (vars : ℕ) (rows : List Row) (basis : List ℕ) (m n : Option (List ℕ)) → Result vars rows basis m → Result vars rows basis n → m ≡ n
+pub same_result : (vars : ℕ) (rows : List Row) (basis : List ℕ) (m n : Option (List ℕ)) → Result vars rows basis m → Result vars rows basis n → m ≡ n
 same_result vars rows basis None None p q = refl
 same_result vars rows basis None (Some next) p q =
     let free = free_of (vars + length rows) basis in
@@ -354,41 +297,10 @@ same_result vars rows basis (Some a) (Some b) p q =
     let free = free_of (vars + length rows) basis in
     let moved = subst (λ t. Moves basis free t p.out p.into) (one_form vars rows basis p.form q.form).1 (p.leaves, p.enters) in
     let s = same_moves (vars + length rows) basis free q.form.lines p.out q.out p.into q.into (from_zero (vars + length rows) basis q.form.rising) moved (q.leaves, q.enters) in
-    ap Some (rising_same 0 (vars + length rows) a b (from_zero (vars + length rows) a p.rises) (from_zero (vars + length rows) b q.rises) (λ z i. (q.swaps z).1 (turned z s.0 s.1 ((p.swaps z).0 i))) (λ z i. (p.swaps z).1 (turned' z s.0 s.1 ((q.swaps z).0 i))))
-  where
-    turned : (z : ℕ) → p.out ≡ q.out → p.into ≡ q.into → ((z ≡ p.into) ⊎ (In z basis × (z ≢ p.out))) → (z ≡ q.into) ⊎ (In z basis × (z ≢ q.out))
-    turned z o i (inl e) = inl (e ∙ i)
-    turned z o i (inr k) = inr (k.0, λ e. k.1 (e ∙ sym o))
+    let swaps = subst (λ o. Swaps basis o q.into a) s.0 (subst (λ i. Swaps basis p.out i a) s.1 p.swaps) in
+    ap Some (same_swap (vars + length rows) basis q.out q.into a b p.rises q.rises swaps q.swaps)
 
-    turned' : (z : ℕ) → p.out ≡ q.out → p.into ≡ q.into → ((z ≡ q.into) ⊎ (In z basis × (z ≢ q.out))) → (z ≡ p.into) ⊎ (In z basis × (z ≢ p.out))
-    turned' z o i (inl e) = inl (e ∙ sym i)
-    turned' z o i (inr k) = inr (k.0, λ e. k.1 (e ∙ o))
-
-form_of : (vars : ℕ) (rows : List Row) (basis : List ℕ) (m : Option (List ℕ)) → Result vars rows basis m → Form vars rows basis
-form_of vars rows basis None r = r.form
-form_of vars rows basis (Some next) r = r.form
-
-pub step_in_words : (vars : ℕ) (rows : List Row) (basis : List ℕ) (m : Option (List ℕ)) → IsNext vars rows basis m ↔ Result vars rows basis m
-step_in_words vars rows basis m = (
-  λ n. subst (Result vars rows basis) n.is (result vars rows basis n.form),
-  λ r. let f = form_of vars rows basis m r in record { form = f; is = same_result vars rows basis (next_basis (vars + length rows) basis f.lines) m (result vars rows basis f) r },
-)
-
--- ---- the walk
-abbrev pub EndsAt : ℕ → List Row → List ℕ → Type 0
-EndsAt vars rows basis = Stops vars rows basis ⊎ ((next : List ℕ) × Pivots vars rows basis next × IsWide vars rows next)
-
-pub goes_on : (vars : ℕ) (rows : List Row) (basis next : List ℕ) (bases : List (List ℕ)) → Steps vars rows (basis ∷ next ∷ bases) ↔ (Pivots vars rows basis next × (IsWide vars rows next → ⊥) × Steps vars rows (next ∷ bases))
-goes_on vars rows basis next bases =
-    (λ s. ((step_in_words vars rows basis (Some next)).0 s.0, s.1, s.2), λ s. ((step_in_words vars rows basis (Some next)).1 s.0, s.1, s.2))
-
-pub ends_at : (vars : ℕ) (rows : List Row) (basis : List ℕ) → Steps vars rows (basis ∷ []) ↔ EndsAt vars rows basis
-ends_at vars rows basis = (there, back)
-  where
-    there : IsNext vars rows basis None ⊎ IsBlocked vars rows basis → EndsAt vars rows basis
-    there (inl n) = inl ((step_in_words vars rows basis None).0 n)
-    there (inr k) = inr (k.next, (step_in_words vars rows basis (Some k.next)).0 k.is_next, k.wide)
-
-    back : EndsAt vars rows basis → IsNext vars rows basis None ⊎ IsBlocked vars rows basis
-    back (inl s) = inl ((step_in_words vars rows basis None).1 s)
-    back (inr k) = inr (record { next = k.0; is_next = (step_in_words vars rows basis (Some k.0)).1 k.1; wide = k.2 })
+pub next_is : (vars : ℕ) (rows : List Row) (basis : List ℕ) (f : Form vars rows basis) (m : Option (List ℕ)) → (next_basis (vars + length rows) basis f.lines ≡ m) ↔ Result vars rows basis m
+next_is vars rows basis f m =
+    let computed = result vars rows basis f in
+    (λ e. subst (Result vars rows basis) e computed, λ r. same_result vars rows basis (next_basis (vars + length rows) basis f.lines) m computed r)
