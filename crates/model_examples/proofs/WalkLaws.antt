@@ -13,10 +13,10 @@ use Rattle.seq_model.specs.Walks.{Pivots, Stops, IsWide, Walk, WalkWide}
 
 -- ---- one row
 slack_form : Form 1 one_row (1 ∷ [])
-slack_form = record { d = pos 1; lines = (negsuc 0 ∷ pos 2 ∷ []) ∷ []; many = refl; rising = lit< tt; positive = le_z_yes tt; says = ((refl, refl), tt); least = λ k h. eq-one_of_dvd-one h.0 }
+slack_form = record { d = pos 1; lines = (negsuc 0 ∷ pos 2 ∷ []) ∷ []; many = refl; rising = lit< tt; positive = le_z_yes tt; says = ((refl, refl), tt); reduced = λ k h. eq-one_of_dvd-one h.0 }
 
 half_form : Form 1 one_row (0 ∷ [])
-half_form = record { d = pos 2; lines = (pos 1 ∷ pos 1 ∷ []) ∷ []; many = refl; rising = lit< tt; positive = le_z_yes tt; says = ((refl, refl), tt); least = λ k h. eq-one_of_dvd-one (h.1 0 [] (lit< tt) 0 (pos 0) (lit< tt)) }
+half_form = record { d = pos 2; lines = (pos 1 ∷ pos 1 ∷ []) ∷ []; many = refl; rising = lit< tt; positive = le_z_yes tt; says = ((refl, refl), tt); reduced = λ k h. eq-one_of_dvd-one (h.1 0 [] (lit< tt) 0 (pos 0) (lit< tt)) }
 
 pub first_form : FormIs 1 one_row (1 ∷ []) (pos 1) ((negsuc 0 ∷ pos 2 ∷ []) ∷ [])
 unfolding slack_form
@@ -43,11 +43,11 @@ unfolding half_form
 stops = (next_is 1 one_row (0 ∷ []) half_form None).0 refl
 
 pub walk_of_one : Walk 1 one_row (1 ∷ []) ((1 ∷ []) ∷ (0 ∷ []) ∷ [])
-walk_of_one = record { begins = refl; steps = (goes_on, never_wide, inl stops) }
+walk_of_one = record { before = (1 ∷ []) ∷ []; last = 0 ∷ []; bases_are = refl; begins = refl; follow = (goes_on, never_wide, tt); ends = inl stops }
 
 -- ---- a wide row
 two_slacks : Form 2 wide_rows (2 ∷ 3 ∷ [])
-two_slacks = record { d = pos 1; lines = (negsuc 0 ∷ big ∷ pos 0 ∷ []) ∷ (negsuc 1 ∷ pos 1 ∷ pos 3 ∷ []) ∷ []; many = refl; rising = (lit< tt, lit< tt); positive = le_z_yes tt; says = ((refl, refl), ((refl, refl), tt)); least = λ k h. eq-one_of_dvd-one h.0 }
+two_slacks = record { d = pos 1; lines = (negsuc 0 ∷ big ∷ pos 0 ∷ []) ∷ (negsuc 1 ∷ pos 1 ∷ pos 3 ∷ []) ∷ []; many = refl; rising = (lit< tt, lit< tt); positive = le_z_yes tt; says = ((refl, refl), ((refl, refl), tt)); reduced = λ k h. eq-one_of_dvd-one h.0 }
 
 wide_form : Form 2 wide_rows (0 ∷ 3 ∷ [])
 wide_form = record {
@@ -57,7 +57,7 @@ wide_form = record {
   rising = (lit< tt, lit< tt);
   positive = le_z_yes tt;
   says = ((refl, refl), ((refl, refl), tt));
-  least = λ k h. eq-one_of_dvd-one (h.1 0 [] (lit< tt) 0 (pos 0) (lit< tt));
+  reduced = λ k h. eq-one_of_dvd-one (h.1 0 [] (lit< tt) 0 (pos 0) (lit< tt));
 }
 
 pub wide_form_is : FormIs 2 wide_rows (0 ∷ 3 ∷ []) big ((pos 1 ∷ pos 0 ∷ pos 1 ∷ []) ∷ ((pos 1 -ℤ pos 2 *ℤ big) ∷ (pos 3 *ℤ big) ∷ pos 1 ∷ []) ∷ [])
@@ -81,9 +81,8 @@ narrow_below (suc (suc (suc r))) l t = absurd (omega (arith, l))
 
 pub walk_wide : WalkWide 2 wide_rows (0 ∷ 3 ∷ []) 3
 walk_wide = record {
-  before = [];
-  last = 2 ∷ 3 ∷ [];
-  walk = record { begins = refl; steps = inr (0 ∷ 3 ∷ [], pivots, (3, wide_at_3)) };
+  bases = (2 ∷ 3 ∷ []) ∷ [];
+  walk = record { before = []; last = 2 ∷ 3 ∷ []; bases_are = refl; begins = refl; follow = tt; ends = inr (0 ∷ 3 ∷ [], pivots, (3, wide_at_3)) };
   next = pivots;
   wide = wide_at_3;
   least = λ r w. le_from_not r 3 (λ l. narrow_below r l ((wide_decided 2 wide_rows (0 ∷ 3 ∷ []) wide_form r).0 w));

@@ -10,26 +10,26 @@ use Rattle.seq_model.specs.Dictionaries.{Form, WideAt}
 
 -- where the slack is basic, its line is the row
 entry_form : Form 1 (row_of (negsuc 0) edge) (1 ∷ [])
-entry_form = record { d = pos 1; lines = (negsuc 0 ∷ edge ∷ []) ∷ []; many = refl; rising = lit< tt; positive = le_z_yes tt; says = ((refl, refl), tt); least = λ k h. eq-one_of_dvd-one h.0 }
+entry_form = record { d = pos 1; lines = (negsuc 0 ∷ edge ∷ []) ∷ []; many = refl; rising = lit< tt; positive = le_z_yes tt; says = ((refl, refl), tt); reduced = λ k h. eq-one_of_dvd-one h.0 }
 
 low_entry_form : Form 1 (row_of (negsuc 0) below_edge) (1 ∷ [])
-low_entry_form = record { d = pos 1; lines = (negsuc 0 ∷ below_edge ∷ []) ∷ []; many = refl; rising = lit< tt; positive = le_z_yes tt; says = ((refl, refl), tt); least = λ k h. eq-one_of_dvd-one h.0 }
+low_entry_form = record { d = pos 1; lines = (negsuc 0 ∷ below_edge ∷ []) ∷ []; many = refl; rising = lit< tt; positive = le_z_yes tt; says = ((refl, refl), tt); reduced = λ k h. eq-one_of_dvd-one h.0 }
 
 sized_form : Form 1 (row_of (negsuc 0) (neg_ℤ edge)) (1 ∷ [])
-sized_form = record { d = pos 1; lines = (negsuc 0 ∷ neg_ℤ edge ∷ []) ∷ []; many = refl; rising = lit< tt; positive = le_z_yes tt; says = ((refl, refl), tt); least = λ k h. eq-one_of_dvd-one h.0 }
+sized_form = record { d = pos 1; lines = (negsuc 0 ∷ neg_ℤ edge ∷ []) ∷ []; many = refl; rising = lit< tt; positive = le_z_yes tt; says = ((refl, refl), tt); reduced = λ k h. eq-one_of_dvd-one h.0 }
 
 constant_form : Form 1 (row_of (neg_ℤ edge) (pos 1)) (1 ∷ [])
-constant_form = record { d = pos 1; lines = (neg_ℤ edge ∷ pos 1 ∷ []) ∷ []; many = refl; rising = lit< tt; positive = le_z_yes tt; says = ((refl, refl), tt); least = λ k h. eq-one_of_dvd-one h.0 }
+constant_form = record { d = pos 1; lines = (neg_ℤ edge ∷ pos 1 ∷ []) ∷ []; many = refl; rising = lit< tt; positive = le_z_yes tt; says = ((refl, refl), tt); reduced = λ k h. eq-one_of_dvd-one h.0 }
 
 low_constant_form : Form 1 (row_of (neg_ℤ below_edge) (pos 1)) (1 ∷ [])
-low_constant_form = record { d = pos 1; lines = (neg_ℤ below_edge ∷ pos 1 ∷ []) ∷ []; many = refl; rising = lit< tt; positive = le_z_yes tt; says = ((refl, refl), tt); least = λ k h. eq-one_of_dvd-one h.0 }
+low_constant_form = record { d = pos 1; lines = (neg_ℤ below_edge ∷ pos 1 ∷ []) ∷ []; many = refl; rising = lit< tt; positive = le_z_yes tt; says = ((refl, refl), tt); reduced = λ k h. eq-one_of_dvd-one h.0 }
 
 -- where u is basic, the coefficient times u is 1 plus the slack
 denominator_form : Form 1 (row_of (negsuc 0) edge) (0 ∷ [])
-denominator_form = record { d = edge; lines = (pos 1 ∷ pos 1 ∷ []) ∷ []; many = refl; rising = lit< tt; positive = le_z_yes tt; says = ((refl, refl), tt); least = λ k h. eq-one_of_dvd-one (h.1 0 [] (lit< tt) 0 (pos 0) (lit< tt)) }
+denominator_form = record { d = edge; lines = (pos 1 ∷ pos 1 ∷ []) ∷ []; many = refl; rising = lit< tt; positive = le_z_yes tt; says = ((refl, refl), tt); reduced = λ k h. eq-one_of_dvd-one (h.1 0 [] (lit< tt) 0 (pos 0) (lit< tt)) }
 
 low_denominator_form : Form 1 (row_of (negsuc 0) below_edge) (0 ∷ [])
-low_denominator_form = record { d = below_edge; lines = (pos 1 ∷ pos 1 ∷ []) ∷ []; many = refl; rising = lit< tt; positive = le_z_yes tt; says = ((refl, refl), tt); least = λ k h. eq-one_of_dvd-one (h.1 0 [] (lit< tt) 0 (pos 0) (lit< tt)) }
+low_denominator_form = record { d = below_edge; lines = (pos 1 ∷ pos 1 ∷ []) ∷ []; many = refl; rising = lit< tt; positive = le_z_yes tt; says = ((refl, refl), tt); reduced = λ k h. eq-one_of_dvd-one (h.1 0 [] (lit< tt) 0 (pos 0) (lit< tt)) }
 
 pub entry : WideAt 1 (row_of (negsuc 0) edge) (1 ∷ []) 1
 unfolding entry_form

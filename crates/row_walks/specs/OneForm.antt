@@ -131,7 +131,7 @@ one_form vars rows basis f g =
     let free = free_of (vars + length rows) basis in
     let one_way = all_proportional vars rows f.d g.d free (independent vars rows basis f) basis f.lines g.lines f.says g.says in
     let d : f.d ≡ g.d = same_size f.d g.d (positive f.d f.positive) (positive g.d g.positive)
-    (dvd_antisymm (divides_other f.d g.d f.lines g.lines (positive f.d f.positive) f.least one_way) (divides_other g.d f.d g.lines f.lines (positive g.d g.positive) g.least (λ r j. sym (one_way r j)))) in
+    (dvd_antisymm (divides_other f.d g.d f.lines g.lines (positive f.d f.positive) f.reduced one_way) (divides_other g.d f.d g.lines f.lines (positive g.d g.positive) g.reduced (λ r j. sym (one_way r j)))) in
     let says : Says vars rows f.d free basis g.lines = subst (λ t. Says vars rows t free basis g.lines) (sym d) g.says in (
       d,
       lines_same vars rows f.d free (positive f.d f.positive) basis f.lines g.lines f.says says (λ r j. subst (λ t. t *ℤ get_or (get_or f.lines r []) j (pos 0) ≡ f.d *ℤ get_or (get_or g.lines r []) j (pos 0)) (sym d) (one_way r j)),
