@@ -110,6 +110,7 @@ pub overlap_back : {A B F A2 B2 F2 : List Spot} (p r : Point) → SameOutline A 
 overlap_back p r a b f o = record {
   point = o.point;
   is_point = o.is_point;
+  is_place = o.is_place;
   of_later = o.of_later;
   of_part = o.of_part;
   earlier = (a.inner _).1 o.earlier;

@@ -60,6 +60,7 @@ pub meet_at_47_2 : Overlap cube cube nozzle origin (half (pos 47) (pos 0))
 meet_at_47_2 = record {
   point = record { x = pos 83; y = pos 40; d = pos 4 };
   is_point = record { positive = le_z_yes tt };
+  is_place = record { positive = le_z_yes tt };
   of_later = record { x = negsuc 6; y = pos 80; d = pos 8 };
   of_part = record { x = negsuc 14; y = pos 0; d = pos 8 };
   earlier = record { point = record { positive = le_z_yes tt }; w = pos 1 ∷ pos 87 ∷ pos 87 ∷ pos 1 ∷ []; weights = (le_z_yes tt, (le_z_yes tt, (le_z_yes tt, (le_z_yes tt, tt)))); some = le_z_yes tt; x = refl; y = refl };
@@ -139,6 +140,7 @@ tall_first = record {
   overlap = record {
     point = at (pos 25) (pos 10);
     is_point = record { positive = le_z_yes tt };
+    is_place = record { positive = le_z_yes tt };
     of_later = at (pos 20) (pos 10);
     of_part = at (pos 5) (pos 0);
     earlier = record { point = record { positive = le_z_yes tt }; w = pos 21 ∷ pos 1 ∷ pos 1 ∷ pos 21 ∷ []; weights = (le_z_yes tt, (le_z_yes tt, (le_z_yes tt, (le_z_yes tt, tt)))); some = le_z_yes tt; x = refl; y = refl };

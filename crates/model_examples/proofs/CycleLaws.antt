@@ -1,5 +1,5 @@
 -- Cycles of paths that are written out, and lists that are none.
-use Rattle.std.proofs.Common.{ℕ, [], ◌∷◌, refl, ap, arith, lit<, lit≤, inl, inr, Contains}
+use Rattle.std.proofs.Common.{ℕ, [], ◌∷◌, refl, ap, arith, ◌≤◌, lit<, lit≤, inl, inr, Contains}
 use Rattle.integer_laws.specs.Members.{In, In-from_contains}
 use Rattle.model_examples.specs.Certificates.{before}
 use Rattle.model_examples.specs.Jobs.{two_cubes, three_cubes}
@@ -17,10 +17,10 @@ later (Choices.Before i j) = j
 later (Choices.Side c d) = 0
 
 pub two : Refutes two_cubes 100 (before 0 1 ∷ before 1 0 ∷ []) (Nodes.Cycle (0 ∷ 1 ∷ []) ∷ [])
-two = (((lit≤ tt, ((0, lit< tt, refl), (1, lit< tt, refl))), tt), [], refl, refl)
+two = (((lit≤ tt, ((0, lit< tt, refl), ((1, lit< tt, refl), tt))), tt), [], refl, refl)
 
 pub three : Refutes three_cubes 100 (before 0 1 ∷ before 1 2 ∷ before 2 0 ∷ []) (Nodes.Cycle (0 ∷ 1 ∷ 2 ∷ []) ∷ [])
-three = (((lit≤ tt, ((0, lit< tt, refl), ((1, lit< tt, refl), (2, lit< tt, refl)))), tt), [], refl, refl)
+three = (((lit≤ tt, ((0, lit< tt, refl), ((1, lit< tt, refl), ((2, lit< tt, refl), tt)))), tt), [], refl, refl)
 
 -- 1 before 0 isn't on the path of 0 before 1
 not_back : Contains (before 0 1 ∷ []) (before 1 0) → ⊥
@@ -31,7 +31,7 @@ not_back c = by_place (In-from_contains (before 0 1 ∷ []) (before 1 0) c)
     by_place (inr i) = absurd i
 
 pub one_way : Refutes two_cubes 100 (before 0 1 ∷ []) (Nodes.Cycle (0 ∷ 1 ∷ []) ∷ []) → ⊥
-one_way r = not_back r.0.0.1.1
+one_way r = not_back r.0.0.1.1.0
 
 pub other_way : Refutes two_cubes 100 (before 0 1 ∷ []) (Nodes.Cycle (1 ∷ 0 ∷ []) ∷ []) → ⊥
 other_way r = not_back r.0.0.1.0
@@ -50,7 +50,7 @@ pub backwards : Refutes three_cubes 100 (before 0 1 ∷ before 1 2 ∷ before 2 
 backwards r = not_across r.0.0.1.0
 
 pub one_object : Refutes two_cubes 100 (before 0 0 ∷ []) (Nodes.Cycle (0 ∷ []) ∷ []) → ⊥
-one_object r = absurd (omega (arith, r.0.0.0))
+one_object r = let two_of : 2 ≤ 1 = r.0.0.0 in absurd (omega (arith, two_of))
 
 pub no_object : Refutes two_cubes 100 (before 0 0 ∷ []) (Nodes.Cycle [] ∷ []) → ⊥
-no_object r = r.0.0
+no_object r = let two_of : 2 ≤ 0 = r.0.0.0 in absurd (omega (arith, two_of))

@@ -112,6 +112,7 @@ run_into = record {
   overlap = record {
     point = at (pos 26) (pos 11);
     is_point = record { positive = le_z_yes tt };
+    is_place = record { positive = le_z_yes tt };
     of_later = at (pos 20) (pos 10);
     of_part = at (pos 5) (pos 0);
     earlier = record { point = record { positive = le_z_yes tt }; w = pos 21 ∷ pos 1 ∷ pos 1 ∷ pos 21 ∷ []; weights = (le_z_yes tt, (le_z_yes tt, (le_z_yes tt, (le_z_yes tt, tt)))); some = le_z_yes tt; x = refl; y = refl };

@@ -29,7 +29,7 @@ at_tip : Inner nozzle (at (pos 0) (pos 0))
 at_tip = record { point = record { positive = le_z_yes tt }; w = pos 1 ∷ pos 1 ∷ pos 1 ∷ pos 1 ∷ []; weights = (le_z_yes tt, (le_z_yes tt, (le_z_yes tt, (le_z_yes tt, tt)))); some = le_z_yes tt; x = refl; y = refl }
 
 together : Overlap cube cube nozzle (at (pos 1) (pos 1)) (at (pos 1) (pos 1))
-together = record { point = at (pos 11) (pos 11); is_point = record { positive = le_z_yes tt }; of_later = at (pos 10) (pos 10); of_part = at (pos 0) (pos 0); earlier = in_middle; later = in_middle; moving = at_tip; sum = record { x = refl; y = refl } }
+together = record { point = at (pos 11) (pos 11); is_point = record { positive = le_z_yes tt }; is_place = record { positive = le_z_yes tt }; of_later = at (pos 10) (pos 10); of_part = at (pos 0) (pos 0); earlier = in_middle; later = in_middle; moving = at_tip; sum = record { x = refl; y = refl } }
 
 one_way : CollidesAt two_cubes 100 at_zero 0 1
 one_way = record { b = 0; c = 0; part = nozzle_part; band_of_later = lit< tt; band_of_earlier = lit< tt; part_of_scene = (1, lit< tt, refl); meets = record { from_low = lit≤ tt; to_high = tt }; overlap = together }
@@ -64,7 +64,7 @@ spent s most = record {
   leaf_is = refl;
   path = [];
   path_is = ([], refl);
-  more = record { node = Nodes.Order 0 1; split = tt; sound = (lit< tt, lit< tt); paths = _; children = refl; earned = root_is_earned };
+  more = record { node = Nodes.Order 0 1; sound = (lit< tt, lit< tt); first = _; others = _; children = refl; earned = root_is_earned };
 }
 
 -- ---- the order and its two children, with nothing of a budget left
@@ -88,7 +88,7 @@ three_over = record {
   leaf_is = refl;
   path = first_ordered;
   path_is = ((Choices.Before 1 0 ∷ []) ∷ [], (tt, _, refl, refl));
-  more = record { node = Nodes.Side first_contact 4; split = tt; sound = (is_first, (0, lit< tt, refl)); paths = _; children = (four_sides, cube_sides, refl, refl); earned = record { at = at_zero; on = on_ordered; here = contact_collides } };
+  more = record { node = Nodes.Side first_contact 4; sound = (is_first, (0, lit< tt, refl)); first = _; others = _; children = (four_sides, cube_sides, refl, refl); earned = record { at = at_zero; on = on_ordered; here = contact_collides } };
 }
 
 pub four_over : (nodes : List Node) → length nodes ≡ 4 → SpentTree two_cubes 100 0 nodes → ⊥

@@ -3,15 +3,16 @@
 --   reads_weaker     what holds of each node may be weakened
 --   reads_then       two parts of a list of nodes, read one after the other
 --   joined, parted   trees for some paths and trees for others, one after the other
---   path_also        one more choice on a path of the job
+--   MayFollow job path choice   a side is chosen of a contact of the job, one of its sides, and after the order of its objects
+--   path_also        one more such choice on a path of the job
 --   children_are_paths   the children of a sound node at a path of the job stand at paths of the job
 --   reads_paths          and so does whatever is read below such paths
-use Rattle.std.proofs.Common.{◌≡◌, ℕ, inl, inr, List, [], ◌∷◌, ◌++◌, All, Contains, length, arith, refl, sym, ap, subst, map, append_assoc, append-nil}
+use Rattle.std.proofs.Common.{◌≡◌, ℕ, inl, inr, List, [], ◌∷◌, ◌++◌, All, Contains, ◌⊎◌, drop, get_or, length, arith, refl, sym, ap, subst, ◌∙◌, map, append_assoc}
 use Rattle.std.proofs.lemmas.List.Elements.{All-nil, All-cons, All-head, All-tail, All-append}
 use Rattle.integer_laws.specs.Members.{In, Contains-from_in}
 use Rattle.seq_model.specs.Contacts.{IsContact, points_of}
 use Rattle.seq_model.specs.Sides.{Side}
-use Rattle.seq_model.specs.Trees.{also, MayFollow, Follow, IsPath, AreChildren, IsSoundNode, IsClosed, Reads, IsTree, Refutes}
+use Rattle.seq_model.specs.Trees.{also, IsPath, AreChildren, IsSoundNode, IsClosed, Reads, IsTree, Refutes}
 use Rattle.seq_model.specs.declared.job.Job.{Job}
 use Rattle.seq_model.specs.declared.tree.Choice.{Choice}
 use Rattle.seq_model.specs.declared.tree.Choice.TheVariants as Choices
@@ -62,13 +63,41 @@ parted job Good (path ∷ a) b (node ∷ nodes) r =
     record { front = node ∷ s.front; back = s.back; are = ap (λ t. node ∷ t) s.are; first = (r.0, r.1, r.2, s.first); second = s.second }
 
 -- ---- paths of a job
-follow_also : (job : Job) (before path : List Choice) (choice : Choice) → Follow job before path → MayFollow job (before ++ path) choice → Follow job before (also path choice)
-follow_also job before [] choice f m = (subst (λ p. MayFollow job p choice) (append-nil before) m, tt)
-follow_also job before (c ∷ path) choice f m =
-    (f.0, follow_also job (also before c) path choice f.1 (subst (λ p. MayFollow job p choice) (sym (append_assoc before (c ∷ []) path)) m))
+abbrev pub MayFollow : Job → List Choice → Choice → Type 0
+MayFollow job path (Choices.Before i j) = Unit {0}
+MayFollow job path (Choices.Side contact dir) = IsContact job contact × Side (points_of job contact) dir × Contains path (Choices.Before contact.i contact.j)
+
+-- where x stands in a path with one more choice at its end: it is this choice, or it stands in the path
+abbrev Stands : List Choice → Choice → List Choice → Choice → Type 0
+Stands path choice earlier x = ((path ≡ earlier) × (choice ≡ x)) ⊎ ((more : List Choice) × (path ≡ earlier ++ x ∷ more))
+
+stands : (path : List Choice) (choice : Choice) (earlier later : List Choice) (x : Choice) → also path choice ≡ earlier ++ x ∷ later → Stands path choice earlier x
+stands [] choice [] later x e = inl (refl, ap (λ l. get_or l 0 choice) e)
+stands [] choice (b ∷ earlier) later x e = absurd (few earlier (ap length e))
+  where
+    few : (l : List Choice) → length (choice ∷ []) ≡ length (b ∷ l ++ x ∷ later) → ⊥
+    few [] h = omega (arith, h)
+    few (y ∷ l) h = omega (arith, h)
+stands (p ∷ path) choice [] later x e = inr (path, ap (λ h. h ∷ path) (ap (λ l. get_or l 0 p) e))
+stands (p ∷ path) choice (b ∷ earlier) later x e = by (stands path choice earlier later x (ap (drop 1) e))
+  where
+    head : p ≡ b
+    head = ap (λ l. get_or l 0 p) e
+
+    by : Stands path choice earlier x → Stands (p ∷ path) choice (b ∷ earlier) x
+    by (inl s) = inl (ap (λ h. h ∷ path) head ∙ ap (λ t. b ∷ t) s.0, s.1)
+    by (inr s) = inr (s.0, ap (λ h. h ∷ path) head ∙ ap (λ t. b ∷ t) s.1)
+
+pub no_choice : (job : Job) → IsPath job []
+no_choice job [] later contact dir e = absurd (omega (arith, ap length e))
+no_choice job (b ∷ earlier) later contact dir e = absurd (omega (arith, ap length e))
 
 pub path_also : (job : Job) (path : List Choice) (choice : Choice) → IsPath job path → MayFollow job path choice → IsPath job (also path choice)
-path_also job path choice f m = follow_also job [] path choice f m
+path_also job path choice is m earlier later contact dir e = by (stands path choice earlier later (Choices.Side contact dir) e)
+  where
+    by : Stands path choice earlier (Choices.Side contact dir) → MayFollow job earlier (Choices.Side contact dir)
+    by (inl s) = subst (λ p. MayFollow job p (Choices.Side contact dir)) s.0 (subst (MayFollow job path) s.1 m)
+    by (inr s) = is earlier s.0 contact dir s.1
 
 each_side : (job : Job) (path : List Choice) (contact : Contact) → IsPath job path → IsContact job contact → Contains path (Choices.Before contact.i contact.j)
     → (dirs : List Dir) → ((dir : Dir) → In dir dirs → Side (points_of job contact) dir) → All (IsPath job) (map (λ dir. also path (Choices.Side contact dir)) dirs)
@@ -101,4 +130,4 @@ reads_paths job e Good sound (node ∷ nodes) (path ∷ todo) left all r =
     ((r.0, here), r.1, r.2, reads_paths job e Good sound nodes (r.1 ++ todo) left (All-append (IsPath job) r.1 todo below (All-tail (IsPath job) path todo all)) r.3)
 
 pub tree_of_paths : (job : Job) (e : ℕ) (nodes : List Node) → Refutes job e [] nodes → IsTree job (λ path node. (IsSoundNode job e path node × IsClosed node) × IsPath job path) [] nodes
-tree_of_paths job e nodes r = reads_paths job e (λ path node. IsSoundNode job e path node × IsClosed node) (λ path node g. g.0) nodes ([] ∷ []) [] (All-cons (IsPath job) [] [] tt (All-nil (IsPath job))) r
+tree_of_paths job e nodes r = reads_paths job e (λ path node. IsSoundNode job e path node × IsClosed node) (λ path node g. g.0) nodes ([] ∷ []) [] (All-cons (IsPath job) [] [] (no_choice job) (All-nil (IsPath job))) r
