@@ -5,6 +5,7 @@ pub mod CycleLaws
 pub mod FullLaws
 pub mod OneList
 pub mod OrderLaws
+pub mod PathLaws
 pub mod PlanLaws
 pub mod SideLaws
 pub mod SplitLaws

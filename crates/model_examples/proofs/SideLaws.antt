@@ -1,4 +1,4 @@
--- The sides of two wedges and of two cubes with the nozzle: each of the directions is one, and nothing else is.
+-- The sides of two wedges and of two cubes with the nozzle and with the tip: each of the directions is one, and nothing else is.
 use Rattle.std.proofs.Common.{◌≡◌, ℕ, ◌<◌, List, [], ◌∷◌, length, get_or, refl, ap, ap₂, sym, ◌∙◌, subst, arith, ℤ, pos, negsuc, ◌≤ℤ◌, ◌<ℤ◌, ◌⊎◌, inl, inr, true, AllPairs, lit<, unsigned_abs}
 use Rattle.std.proofs.Math.Nat.{eq-one_of_dvd-one}
 use Rattle.std.proofs.lemmas.Int.{ints, by_lt_z}
@@ -108,14 +108,52 @@ wedge_southwest = record { primitive = λ n h k. eq-one_of_dvd-one h; a = spot (
 wedge_south : Side wedge_points south
 wedge_south = record { primitive = λ n h k. eq-one_of_dvd-one k; a = spot (negsuc 3) (negsuc 23); b = spot (pos 0) (negsuc 23); a_in = (14, lit< tt, refl); b_in = (15, lit< tt, refl); apart = λ e. absurd (omega (arith, ints, ap (λ (s : Spot). s.x) e)); at_a = refl; at_b = refl }
 
-wedge_listed : (t : Dir) → In t (east ∷ northeast ∷ north ∷ west ∷ southwest ∷ south ∷ []) → Side wedge_points t
-wedge_listed t (inl e) = subst (Side wedge_points) (sym e) wedge_east
-wedge_listed t (inr (inl e)) = subst (Side wedge_points) (sym e) wedge_northeast
-wedge_listed t (inr (inr (inl e))) = subst (Side wedge_points) (sym e) wedge_north
-wedge_listed t (inr (inr (inr (inl e)))) = subst (Side wedge_points) (sym e) wedge_west
-wedge_listed t (inr (inr (inr (inr (inl e))))) = subst (Side wedge_points) (sym e) wedge_southwest
-wedge_listed t (inr (inr (inr (inr (inr (inl e)))))) = subst (Side wedge_points) (sym e) wedge_south
-wedge_listed t (inr (inr (inr (inr (inr (inr i)))))) = absurd i
+-- six sides along the axes and one diagonal
+record SixSides (S : List Spot) : Type 0 where
+  side_east : Side S east
+  side_northeast : Side S northeast
+  side_north : Side S north
+  side_west : Side S west
+  side_southwest : Side S southwest
+  side_south : Side S south
+  east_northeast : Neighbours S east northeast
+  northeast_north : Neighbours S northeast north
+  north_west : Neighbours S north west
+  west_southwest : Neighbours S west southwest
+  southwest_south : Neighbours S southwest south
+  south_east : Neighbours S south east
+
+wedge_six : SixSides wedge_points
+wedge_six = record { side_east = wedge_east; side_northeast = wedge_northeast; side_north = wedge_north; side_west = wedge_west; side_southwest = wedge_southwest; side_south = wedge_south; east_northeast = wedge_east_northeast; northeast_north = wedge_northeast_north; north_west = wedge_north_west; west_southwest = wedge_west_southwest; southwest_south = wedge_southwest_south; south_east = wedge_south_east }
+
+six_listed : (S : List Spot) → SixSides S → (t : Dir) → In t (east ∷ northeast ∷ north ∷ west ∷ southwest ∷ south ∷ []) → Side S t
+six_listed S f t (inl e) = subst (Side S) (sym e) f.side_east
+six_listed S f t (inr (inl e)) = subst (Side S) (sym e) f.side_northeast
+six_listed S f t (inr (inr (inl e))) = subst (Side S) (sym e) f.side_north
+six_listed S f t (inr (inr (inr (inl e)))) = subst (Side S) (sym e) f.side_west
+six_listed S f t (inr (inr (inr (inr (inl e))))) = subst (Side S) (sym e) f.side_southwest
+six_listed S f t (inr (inr (inr (inr (inr (inl e)))))) = subst (Side S) (sym e) f.side_south
+six_listed S f t (inr (inr (inr (inr (inr (inr i)))))) = absurd i
+
+-- ---- two wedges by the tip's one point
+abbrev pub wedge_tip_points : List Spot
+wedge_tip_points = difference wedge wedge (spot (pos 0) (pos 0) ∷ [])
+
+wedge_tip_six : SixSides wedge_tip_points
+wedge_tip_six = record {
+  side_east = record { primitive = λ n h k. eq-one_of_dvd-one h; a = spot (pos 22) (pos 0); b = spot (pos 22) (pos 2); a_in = (5, lit< tt, refl); b_in = (10, lit< tt, refl); apart = λ e. absurd (omega (arith, ints, ap (λ (s : Spot). s.y) e)); at_a = refl; at_b = refl };
+  side_northeast = record { primitive = λ n h k. eq-one_of_dvd-one h; a = spot (pos 22) (pos 2); b = spot (pos 2) (pos 22); a_in = (10, lit< tt, refl); b_in = (15, lit< tt, refl); apart = λ e. absurd (omega (arith, ints, ap (λ (s : Spot). s.x) e)); at_a = refl; at_b = refl };
+  side_north = record { primitive = λ n h k. eq-one_of_dvd-one k; a = spot (pos 2) (pos 22); b = spot (pos 0) (pos 22); a_in = (15, lit< tt, refl); b_in = (20, lit< tt, refl); apart = λ e. absurd (omega (arith, ints, ap (λ (s : Spot). s.x) e)); at_a = refl; at_b = refl };
+  side_west = record { primitive = λ n h k. eq-one_of_dvd-one h; a = spot (negsuc 21) (pos 0); b = spot (negsuc 21) (negsuc 1); a_in = (1, lit< tt, refl); b_in = (2, lit< tt, refl); apart = λ e. absurd (omega (arith, ints, ap (λ (s : Spot). s.y) e)); at_a = refl; at_b = refl };
+  side_southwest = record { primitive = λ n h k. eq-one_of_dvd-one h; a = spot (negsuc 21) (negsuc 1); b = spot (negsuc 1) (negsuc 21); a_in = (2, lit< tt, refl); b_in = (3, lit< tt, refl); apart = λ e. absurd (omega (arith, ints, ap (λ (s : Spot). s.x) e)); at_a = refl; at_b = refl };
+  side_south = record { primitive = λ n h k. eq-one_of_dvd-one k; a = spot (negsuc 1) (negsuc 21); b = spot (pos 0) (negsuc 21); a_in = (3, lit< tt, refl); b_in = (4, lit< tt, refl); apart = λ e. absurd (omega (arith, ints, ap (λ (s : Spot). s.x) e)); at_a = refl; at_b = refl };
+  east_northeast = neighbours wedge_tip_points east northeast (spot (pos 22) (pos 2)) 10 (lit< tt) refl refl refl refl;
+  northeast_north = neighbours wedge_tip_points northeast north (spot (pos 2) (pos 22)) 15 (lit< tt) refl refl refl refl;
+  north_west = neighbours wedge_tip_points north west (spot (negsuc 21) (pos 22)) 21 (lit< tt) refl refl refl refl;
+  west_southwest = neighbours wedge_tip_points west southwest (spot (negsuc 21) (negsuc 1)) 2 (lit< tt) refl refl refl refl;
+  southwest_south = neighbours wedge_tip_points southwest south (spot (negsuc 1) (negsuc 21)) 3 (lit< tt) refl refl refl refl;
+  south_east = neighbours wedge_tip_points south east (spot (pos 22) (negsuc 21)) 9 (lit< tt) refl refl refl refl;
+}
 
 -- ---- two cubes
 abbrev pub cube_points : List Spot
@@ -183,8 +221,8 @@ tip_four = record {
 }
 
 -- a direction that is no listed one lies strictly between two neighbours, or is no side at all
-wedge_only : (t : Dir) → Side wedge_points t → In t (east ∷ northeast ∷ north ∷ west ∷ southwest ∷ south ∷ [])
-wedge_only t s = by_three (pos 0) t.y upper level lower
+six_only : (S : List Spot) → SixSides S → (t : Dir) → Side S t → In t (east ∷ northeast ∷ north ∷ west ∷ southwest ∷ south ∷ [])
+six_only S f t s = by_three (pos 0) t.y upper level lower
   where
     on_x : ((t ≡ east) ⊎ (t ≡ west)) → In t (east ∷ northeast ∷ north ∷ west ∷ southwest ∷ south ∷ [])
     on_x (inl e) = inl e
@@ -200,12 +238,12 @@ wedge_only t s = by_three (pos 0) t.y upper level lower
 
     upper : pos 0 <ℤ t.y → In t (east ∷ northeast ∷ north ∷ west ∷ southwest ∷ south ∷ [])
     upper up = by_three t.x (pos 0)
-        (λ left. absurd (between wedge_points north west t wedge_north_west s (omega (arith, ints, up, left)) (omega (arith, ints, up, left))))
+        (λ left. absurd (between S north west t f.north_west s (omega (arith, ints, up, left)) (omega (arith, ints, up, left))))
         (λ zero. on_y (along_y t s.primitive zero))
         (λ right. by_three t.y t.x
-        (λ low. absurd (between wedge_points east northeast t wedge_east_northeast s (omega (arith, ints, up, low)) (omega (arith, ints, up, low))))
+        (λ low. absurd (between S east northeast t f.east_northeast s (omega (arith, ints, up, low)) (omega (arith, ints, up, low))))
         (λ same. on_diagonal (along_diagonal t s.primitive (sym same)))
-        (λ high. absurd (between wedge_points northeast north t wedge_northeast_north s (omega (arith, ints, right, high)) (omega (arith, ints, right, high)))))
+        (λ high. absurd (between S northeast north t f.northeast_north s (omega (arith, ints, right, high)) (omega (arith, ints, right, high)))))
 
     level : pos 0 ≡ t.y → In t (east ∷ northeast ∷ north ∷ west ∷ southwest ∷ south ∷ [])
     level zero = on_x (along_x t s.primitive (sym zero))
@@ -213,11 +251,11 @@ wedge_only t s = by_three (pos 0) t.y upper level lower
     lower : t.y <ℤ pos 0 → In t (east ∷ northeast ∷ north ∷ west ∷ southwest ∷ south ∷ [])
     lower down = by_three t.x (pos 0)
         (λ left. by_three t.x t.y
-        (λ low. absurd (between wedge_points west southwest t wedge_west_southwest s (omega (arith, ints, down, low)) (omega (arith, ints, down, low))))
+        (λ low. absurd (between S west southwest t f.west_southwest s (omega (arith, ints, down, low)) (omega (arith, ints, down, low))))
         (λ same. on_diagonal (along_diagonal t s.primitive same))
-        (λ high. absurd (between wedge_points southwest south t wedge_southwest_south s (omega (arith, ints, left, high)) (omega (arith, ints, left, high)))))
+        (λ high. absurd (between S southwest south t f.southwest_south s (omega (arith, ints, left, high)) (omega (arith, ints, left, high)))))
         (λ zero. on_y (along_y t s.primitive zero))
-        (λ right. absurd (between wedge_points south east t wedge_south_east s (omega (arith, ints, down, right)) (omega (arith, ints, down, right))))
+        (λ right. absurd (between S south east t f.south_east s (omega (arith, ints, down, right)) (omega (arith, ints, down, right))))
 
 four_only : (S : List Spot) → FourSides S → (t : Dir) → Side S t → In t (east ∷ north ∷ west ∷ south ∷ [])
 four_only S f t s = by_three (pos 0) t.y upper level lower
@@ -286,9 +324,9 @@ pairs_of : {X : Type 0} (R : X → X → Type 0) (xs : List X) → EachPair R xs
 pairs_of R [] e = λ i j d l m. absurd (omega (arith, m))
 pairs_of R (x ∷ xs) e = AllPairs-cons R x xs (all_of (R x) xs e.0) (pairs_of R xs e.1)
 
-pub wedge_sides : AreSides wedge_points (east ∷ northeast ∷ north ∷ west ∷ southwest ∷ south ∷ [])
-wedge_sides = record {
-  each = λ t. (λ c. wedge_listed t (In-from_contains (east ∷ northeast ∷ north ∷ west ∷ southwest ∷ south ∷ []) t c), λ s. Contains-from_in (east ∷ northeast ∷ north ∷ west ∷ southwest ∷ south ∷ []) t (wedge_only t s));
+six_sides_of : (S : List Spot) → SixSides S → AreSides S (east ∷ northeast ∷ north ∷ west ∷ southwest ∷ south ∷ [])
+six_sides_of S f = record {
+  each = λ t. (λ c. six_listed S f t (In-from_contains (east ∷ northeast ∷ north ∷ west ∷ southwest ∷ south ∷ []) t c), λ s. Contains-from_in (east ∷ northeast ∷ north ∷ west ∷ southwest ∷ south ∷ []) t (six_only S f t s));
   order = pairs_of HasLesserAngle (east ∷ northeast ∷ north ∷ west ∷ southwest ∷ south ∷ []) ((later_upper east northeast east_upper northeast_upper (lt_z_yes tt), (later_upper east north east_upper north_upper (lt_z_yes tt), (other_half east west east_upper west_lower, (other_half east southwest east_upper southwest_lower, (other_half east south east_upper south_lower, tt))))), ((later_upper northeast north northeast_upper north_upper (lt_z_yes tt), (other_half northeast west northeast_upper west_lower, (other_half northeast southwest northeast_upper southwest_lower, (other_half northeast south northeast_upper south_lower, tt)))), ((other_half north west north_upper west_lower, (other_half north southwest north_upper southwest_lower, (other_half north south north_upper south_lower, tt))), ((later_lower west southwest west_lower southwest_lower (lt_z_yes tt), (later_lower west south west_lower south_lower (lt_z_yes tt), tt)), ((later_lower southwest south southwest_lower south_lower (lt_z_yes tt), tt), (tt, tt))))));
 }
 
@@ -297,6 +335,12 @@ four_sides_of S f = record {
   each = λ t. (λ c. four_listed S f t (In-from_contains (east ∷ north ∷ west ∷ south ∷ []) t c), λ s. Contains-from_in (east ∷ north ∷ west ∷ south ∷ []) t (four_only S f t s));
   order = pairs_of HasLesserAngle (east ∷ north ∷ west ∷ south ∷ []) ((later_upper east north east_upper north_upper (lt_z_yes tt), (other_half east west east_upper west_lower, (other_half east south east_upper south_lower, tt))), ((other_half north west north_upper west_lower, (other_half north south north_upper south_lower, tt)), ((later_lower west south west_lower south_lower (lt_z_yes tt), tt), (tt, tt))));
 }
+
+pub wedge_sides : AreSides wedge_points (east ∷ northeast ∷ north ∷ west ∷ southwest ∷ south ∷ [])
+wedge_sides = six_sides_of wedge_points wedge_six
+
+pub wedge_tip_sides : AreSides wedge_tip_points (east ∷ northeast ∷ north ∷ west ∷ southwest ∷ south ∷ [])
+wedge_tip_sides = six_sides_of wedge_tip_points wedge_tip_six
 
 pub cube_sides : AreSides cube_points (east ∷ north ∷ west ∷ south ∷ [])
 cube_sides = four_sides_of cube_points cube_four

@@ -3,6 +3,7 @@
 --   four_sides       the sides of two cubes with the nozzle, by angle; six_sides those of two wedges
 --   bound r m s n    the leaf that takes row r m times and row s n times
 --   before i j       the choice that object i is printed before object j
+--   beyond d         the choice that the second of two cubes stands beyond the side d of their first contact
 --   tree first       the tree whose first bound is this leaf: an order of the two cubes, and for each order a leaf on each side
 use Rattle.std.specs.Prelude.{ℕ, List, [], ◌∷◌}
 use Rattle.model_examples.specs.Cubes.{first_contact, second_contact, east, northeast, north, west, southwest, south}
@@ -21,6 +22,9 @@ six_sides = east ∷ northeast ∷ north ∷ west ∷ southwest ∷ south ∷ []
 
 abbrev pub before : ℕ → ℕ → Choice
 before i j = Choices.Before i j
+
+abbrev pub beyond : Dir → Choice
+beyond d = Choices.Side first_contact d
 
 abbrev pub bound : ℕ → ℕ → ℕ → ℕ → Node
 bound r m s n = Nodes.Bound (times r m s n)

@@ -1,7 +1,7 @@
 //! Systems, contradictions, and how many nodes are enough.
 
 ghost use Rattle.std.specs.Prelude.{◌≡◌, ◌↔◌, ℕ, [], ◌∷◌, pos, negsuc};
-ghost use Rattle.seq_model.specs.Budgets.{IsMostSides, Full, full_of};
+ghost use Rattle.seq_model.specs.Budgets.{IsMostSides, Full};
 ghost use Rattle.seq_model.specs.Systems.{system, Contradiction};
 ghost use Rattle.model_examples.specs.Rows.{row, rows_at_45, path_to_the_east, times};
 ghost use Rattle.model_examples.specs.Jobs.{two_cubes, two_wedges, three_cubes, cube_on_a_narrow_plate};
@@ -14,13 +14,6 @@ pub fn two_cubes_at_45()
     ensures without_row_2 { Contradiction rows_at_45 (times 2 0 4 1) → ⊥ }
 {}
 
-/// How many nodes are meant to be enough for any search, by the number of sides.
-pub fn enough_nodes()
-    ensures two_cubes { full_of two_cubes 4 ≡ 64 }
-    ensures two_wedges { full_of two_wedges 6 ≡ 144 }
-    ensures three_cubes { full_of three_cubes 4 ≡ 65_536 }
-{}
-
 /// The bounds of one cube at extent 46 of a plate of 100 by 50, whose region is 46 by 23: 24 in x and 1 in y.
 pub fn bounds_on_a_narrow_plate()
     ensures { system cube_on_a_narrow_plate 46 [] ≡ row (pos 24) (negsuc 0 ∷ pos 0 ∷ []) ∷ row (pos 1) (pos 0 ∷ negsuc 0 ∷ []) ∷ [] }
@@ -30,4 +23,16 @@ pub fn bounds_on_a_narrow_plate()
 pub fn nodes_enough_for_two_cubes()
     ensures most_sides { (s : ℕ) → IsMostSides two_cubes s ↔ (s ≡ 4) }
     ensures full { (n : ℕ) → Full two_cubes n ↔ (n ≡ 64) }
+{}
+
+/// No contact of two wedges has more than six sides, and one has six. So their number of nodes is 144, and no other.
+pub fn nodes_enough_for_two_wedges()
+    ensures most_sides { (s : ℕ) → IsMostSides two_wedges s ↔ (s ≡ 6) }
+    ensures full { (n : ℕ) → Full two_wedges n ↔ (n ≡ 144) }
+{}
+
+/// Three cubes have contacts of four sides too, but three pairs. So their number of nodes is 65,536, and no other.
+pub fn nodes_enough_for_three_cubes()
+    ensures most_sides { (s : ℕ) → IsMostSides three_cubes s ↔ (s ≡ 4) }
+    ensures full { (n : ℕ) → Full three_cubes n ↔ (n ≡ 65_536) }
 {}

@@ -1,9 +1,10 @@
 //! Trees that refute an extent.
 
 ghost use Rattle.std.specs.Prelude.{[], ◌∷◌};
-ghost use Rattle.seq_model.specs.Trees.{Refutes};
+ghost use Rattle.seq_model.specs.Trees.{IsPath, Refutes};
 ghost use Rattle.seq_model.specs.declared.tree.Node.TheVariants as Nodes;
-ghost use Rattle.model_examples.specs.Certificates.{tree, bound, before};
+ghost use Rattle.model_examples.specs.Certificates.{tree, bound, before, beyond};
+ghost use Rattle.model_examples.specs.Cubes.{east, northeast};
 ghost use Rattle.model_examples.specs.Jobs.{two_cubes, three_cubes};
 
 /// Two cubes don't fit extent 45: whichever comes first, on each side of the other two rows contradict each other. Without row 2
@@ -23,4 +24,13 @@ pub fn cycles_of_a_path()
     ensures backwards { Refutes three_cubes 100 (before 0 1 ∷ before 1 2 ∷ before 2 0 ∷ []) (Nodes.Cycle (0 ∷ 2 ∷ 1 ∷ []) ∷ []) → ⊥ }
     ensures one_object { Refutes two_cubes 100 (before 0 0 ∷ []) (Nodes.Cycle (0 ∷ []) ∷ []) → ⊥ }
     ensures no_object { Refutes two_cubes 100 (before 0 0 ∷ []) (Nodes.Cycle [] ∷ []) → ⊥ }
+{}
+
+/// The second of two cubes may be put to the east of the first once the first is printed before it: not without this order, not before it
+/// is chosen, and not beyond a direction that is no side of the two.
+pub fn a_side_follows_its_order()
+    ensures follows { IsPath two_cubes (before 0 1 ∷ beyond east ∷ []) }
+    ensures alone { IsPath two_cubes (beyond east ∷ []) → ⊥ }
+    ensures too_soon { IsPath two_cubes (beyond east ∷ before 0 1 ∷ []) → ⊥ }
+    ensures no_side { IsPath two_cubes (before 0 1 ∷ beyond northeast ∷ []) → ⊥ }
 {}

@@ -1,0 +1,14 @@
+use Rattle.model_examples.proofs.PathLaws.{follows, alone, too_soon, no_side}
+use Rattle.model_examples.proofs.trees.a_side_follows_its_order.Goals as goal
+
+pub returns-clause-follows : goal.returns-clause-follows
+returns-clause-follows c = follows
+
+pub returns-clause-alone : goal.returns-clause-alone
+returns-clause-alone c = alone
+
+pub returns-clause-too_soon : goal.returns-clause-too_soon
+returns-clause-too_soon c = too_soon
+
+pub returns-clause-no_side : goal.returns-clause-no_side
+returns-clause-no_side c = no_side
