@@ -11,6 +11,7 @@ use Rattle.std.proofs.lemmas.List.Kept.{Contains-dedup, Contains-from_dedup, IsS
 use Rattle.std.proofs.lemmas.List.Sorted.{Contains-permutation, IsPermutation-sym}
 use Rattle.seq_model.specs.declared.printer.Spot.{Spot}
 use Rattle.integer_laws.specs.Members.{In, In-from_contains, Contains-from_in}
+use Rattle.model_laws.specs.Turning.{before_from_cases}
 use Rattle.convex_outline.specs.Corners.{IsBefore}
 use Rattle.convex_outline.specs.Chains.{RisesFrom, IsRising, SameMembers}
 
@@ -39,7 +40,7 @@ same_spot a b e =
     ap₂ spot x y
 
 before : (a b : Spot) → spot_cmp a b ≡ Less → IsBefore a b
-before a b e = by_ranked (a.x <ℤ b.x) (a.x ≡ b.x) (b.x <ℤ a.x) (int_cmp a.x b.x) (int_ranked a.x b.x (int_cmp a.x b.x) refl) (λ o h. inl h) (λ o h. inr (h, y_less o)) (λ o h. absurd (never o))
+before a b e = by_ranked (a.x <ℤ b.x) (a.x ≡ b.x) (b.x <ℤ a.x) (int_cmp a.x b.x) (int_ranked a.x b.x (int_cmp a.x b.x) refl) (λ o h. before_from_cases a b (inl h)) (λ o h. before_from_cases a b (inr (h, y_less o))) (λ o h. absurd (never o))
   where
     y_less : int_cmp a.x b.x ≡ Equal → a.y <ℤ b.y
     y_less o = less_of (int_cmp a.y b.y) refl (sym (ap (λ t. ordering_then t (int_cmp a.y b.y)) o) ∙ e)

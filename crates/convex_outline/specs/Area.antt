@@ -1,12 +1,13 @@
 -- A list with area has three corners or more.
 --
 --   three_of_area     what lies within two corners lies on their line, so a list that has area has a third corner
-use Rattle.std.proofs.Common.{◌≡◌, ◌≤◌, List, [], ◌∷◌, length, refl, sym, subst, arith, ℤ, pos, neg_ℤ, ◌+ℤ◌, ◌-ℤ◌, ◌*ℤ◌, ◌≤ℤ◌, ◌<ℤ◌, ◌⊎◌, inl, inr}
+use Rattle.std.proofs.Common.{◌≡◌, ◌≤◌, List, [], ◌∷◌, length, refl, sym, subst, arith, ℤ, pos, neg_ℤ, ◌-ℤ◌, ◌*ℤ◌, ◌≤ℤ◌, ◌<ℤ◌, ◌⊎◌, inl, inr}
 use Rattle.std.proofs.lemmas.Int.{ints}
 use Rattle.integer_laws.specs.Ring.{expand}
 use Rattle.integer_laws.specs.Order.{le_of_same, lt_from, same_from, add_le, add_lt_le, add_same, mul_positive, mul_same}
 use Rattle.integer_laws.specs.Members.{In, All-in, In-from_contains}
 use Rattle.seq_model.specs.declared.printer.Spot.{Spot}
+use Rattle.model_laws.specs.Turning.{before_cases, least_by_list}
 use Rattle.convex_outline.specs.Corners.{turn, at_spot, IsBefore, HasArea}
 use Rattle.convex_outline.specs.Vectors.{turn_flipped, turn_start, turn_end}
 use Rattle.convex_outline.specs.Keeping.{Hull}
@@ -25,8 +26,11 @@ along : (a b i k : Spot) → turn a b i ≡ pos 0 → turn a b k ≡ pos 0 → (
 along a b i k e f = same_from (add_same f (mul_same (neg_ℤ (pos 1)) e)) (simp expand (omega (arith, ints)))
 
 ahead : (a b : Spot) → IsBefore a b → (pos 0 <ℤ (b.x -ℤ a.x)) ⊎ (pos 0 <ℤ (b.y -ℤ a.y))
-ahead a b (inl h) = inl (omega (arith, ints))
-ahead a b (inr h) = let g = h.1 in inr (omega (arith, ints))
+ahead a b h = pick (before_cases a b h)
+  where
+    pick : (a.x <ℤ b.x) ⊎ ((a.x ≡ b.x) × (a.y <ℤ b.y)) → (pos 0 <ℤ (b.x -ℤ a.x)) ⊎ (pos 0 <ℤ (b.y -ℤ a.y))
+    pick (inl l) = inl (omega (arith, ints))
+    pick (inr l) = let g = l.1 in inr (omega (arith, ints))
 
 -- what lies within two corners lies on their line
 on_line : (S : List Spot) (a b : Spot) → Hull S (a ∷ b ∷ []) → (s : Spot) → In s S → turn a b s ≡ pos 0
@@ -63,5 +67,5 @@ three_of_area S (a ∷ b ∷ []) h g =
     let j = on_line S a b h g.j (In-from_contains S g.j g.j_in) in
     let k = on_line S a b h g.k (In-from_contains S g.k g.k_in) in
     absurd (no_turn (b.x -ℤ a.x) (b.y -ℤ a.y) (g.j.x -ℤ g.i.x) (g.j.y -ℤ g.i.y) (g.k.x -ℤ g.i.x) (g.k.y -ℤ g.i.y) (along a b g.i g.k i k) (along a b g.i g.j i j)
-    (ahead a b (All-in (IsBefore a) (b ∷ []) b h.corners.least (inl refl))) g.turns)
+    (ahead a b (All-in (IsBefore a) (b ∷ []) b (least_by_list (a ∷ b ∷ []) h.corners) (inl refl))) g.turns)
 three_of_area S (a ∷ b ∷ c ∷ cs) h g = omega arith

@@ -1,5 +1,5 @@
--- Convex outlines: what their corners are. `turn`, `IsBefore`, `StartsLeast`, `LeftAbout`, `TurnsLeft` and `AreCorners` are those
--- of `seq_model`.
+-- Convex outlines: what their corners are. `turn`, `IsBefore` and `AreCorners` are those of `seq_model`, and `StartsLeast`, `LeftAbout`
+-- and `TurnsLeft`, by recursion on the list, those of `model_laws`.
 --
 --   turn_at a b q       the turn from a to b at a point q, times its denominator
 --   at_spot s           the point that a spot is
@@ -9,7 +9,8 @@
 --   HasArea S           three members turn left: they don't all lie on one line
 --   IsNear s            the coordinates of s are below 2^21 in size
 use Rattle.std.specs.Prelude.{◌≡◌, ◌<◌, ◌^◌, List, [], ◌∷◌, ℤ, pos, ◌-ℤ◌, ◌*ℤ◌, ◌<ℤ◌, ◌⊎◌, unsigned_abs, All, Contains}
-pub use Rattle.seq_model.specs.Corners.{turn, IsBefore, StartsLeast, LeftAbout, TurnsLeft, AreCorners}
+pub use Rattle.seq_model.specs.Corners.{turn, IsBefore, AreCorners}
+pub use Rattle.model_laws.specs.Turning.{StartsLeast, LeftAbout, TurnsLeft}
 use Rattle.seq_model.specs.declared.printer.Spot.{Spot}
 use Rattle.seq_model.specs.Points.{Point}
 

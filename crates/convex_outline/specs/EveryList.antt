@@ -10,6 +10,7 @@ use Rattle.integer_laws.specs.Ring.{expand}
 use Rattle.integer_laws.specs.Order.{mul_le}
 use Rattle.integer_laws.specs.Members.{In, All-from_in}
 use Rattle.seq_model.specs.declared.printer.Spot.{Spot}
+use Rattle.model_laws.specs.Turning.{before_cases, before_from_cases, corners_by_list}
 use Rattle.convex_outline.specs.Corners.{IsBefore}
 use Rattle.convex_outline.specs.Chains.{RisesFrom, IsRising, both_chains}
 use Rattle.convex_outline.specs.Vectors.{height}
@@ -33,18 +34,27 @@ level : (k x1 x2 y1 y2 : ℤ) → x1 ≡ x2 → y1 <ℤ y2 → (k *ℤ x1 +ℤ p
 level k x1 x2 y1 y2 e h = rw e (omega (arith, ints))
 
 pub higher : (k : ℤ) (a b : Spot) → pos 0 ≤ℤ k → (a.y -ℤ b.y) <ℤ k → IsBefore a b → height k (pos 1) a <ℤ height k (pos 1) b
-higher k a b w n (inl h) = ahead k a.x b.x a.y b.y w h n
-higher k a b w n (inr h) = level k a.x b.x a.y b.y h.0 h.1
+higher k a b w n h = pick (before_cases a b h)
+  where
+    pick : (a.x <ℤ b.x) ⊎ ((a.x ≡ b.x) × (a.y <ℤ b.y)) → height k (pos 1) a <ℤ height k (pos 1) b
+    pick (inl l) = ahead k a.x b.x a.y b.y w l n
+    pick (inr l) = level k a.x b.x a.y b.y l.0 l.1
 
 ascends : (k : ℤ) (S : List Spot) (s : Spot) (ps : List Spot) → Wide k S → ((x : Spot) → In x (s ∷ ps) → In x S) → RisesFrom s ps → Ascends k (pos 1) s ps
 ascends k S s [] w i r = tt
 ascends k S s (p ∷ ps) w i r = (higher k s p w.least (w.apart s p (i s (inl refl)) (i p (inr (inl refl)))) r.0, ascends k S p ps w (λ x j. i x (inr j)) r.1)
 
 before_trans : (a b c : Spot) → IsBefore a b → IsBefore b c → IsBefore a c
-before_trans a b c (inl h) (inl k) = inl (omega (arith, ints))
-before_trans a b c (inl h) (inr k) = let e = k.0 in inl (omega (arith, ints))
-before_trans a b c (inr h) (inl k) = let e = h.0 in inl (omega (arith, ints))
-before_trans a b c (inr h) (inr k) = let x = h.1 in let y = k.1 in inr (h.0 ∙ k.0, omega (arith, ints))
+before_trans a b c h k = (omega (arith, ints, h.0, k.0), λ e. up (h.1 (between a.x b.x c.x h.0 k.0 e)) (k.1 (between_too a.x b.x c.x h.0 k.0 e)))
+  where
+    between : (x y z : ℤ) → x ≤ℤ y → y ≤ℤ z → x ≡ z → x ≡ y
+    between x y z l m e = omega (arith, ints)
+
+    between_too : (x y z : ℤ) → x ≤ℤ y → y ≤ℤ z → x ≡ z → y ≡ z
+    between_too x y z l m e = omega (arith, ints)
+
+    up : a.y <ℤ b.y → b.y <ℤ c.y → a.y <ℤ c.y
+    up l m = omega (arith, ints)
 
 after_first : (s x : Spot) (ps : List Spot) → RisesFrom s ps → In x (s ∷ ps) → (x ≡ s) ⊎ IsBefore s x
 after_first s x ps r (inl e) = inl e
@@ -60,7 +70,7 @@ rising_hull k [] w r h = absurd (omega arith)
 rising_hull k (s ∷ []) w r h = absurd (omega arith)
 rising_hull k (s ∷ p ∷ ps) w r h =
     let c = closed_of k (pos 1) s p ps (ascends k (s ∷ p ∷ ps) s (p ∷ ps) w (λ x i. i) r) in
-    subst (Hull (s ∷ p ∷ ps)) (sym c.is) (record { corners = record { least = All-from_in (IsBefore s) c.rest (λ x i. later c x i); left = c.left }; keeps = c.keeps })
+    subst (Hull (s ∷ p ∷ ps)) (sym c.is) (record { corners = corners_by_list (s ∷ c.rest) (All-from_in (IsBefore s) c.rest (λ x i. later c x i)) c.left; keeps = c.keeps })
   where
     later : (c : Closed k (pos 1) s (s ∷ p ∷ ps) (both_chains (s ∷ p ∷ ps))) (x : Spot) → In x c.rest → IsBefore s x
     later c x i = pick (after_first s x (p ∷ ps) r (c.keeps.members x (inr i)))
@@ -80,10 +90,10 @@ abbrev pub Compared : Spot → Spot → Type 0
 Compared a b = IsBefore a b ⊎ ((a ≡ b) ⊎ IsBefore b a)
 
 pub compared : (a b : Spot) → Compared a b
-compared a b = by_lt_z a.x b.x (λ h. inl (inl h)) (λ h. by_lt_z b.x a.x (λ k. inr (inr (inl k))) (λ k. level_x (omega (arith, ints))))
+compared a b = by_lt_z a.x b.x (λ h. inl (before_from_cases a b (inl h))) (λ h. by_lt_z b.x a.x (λ k. inr (inr (before_from_cases b a (inl k)))) (λ k. level_x (omega (arith, ints))))
   where
     level_x : a.x ≡ b.x → Compared a b
-    level_x e = by_lt_z a.y b.y (λ h. inl (inr (e, h))) (λ h. by_lt_z b.y a.y (λ k. inr (inr (inr (sym e, k)))) (λ k. inr (inl (ap₂ spot e (omega (arith, ints))))))
+    level_x e = by_lt_z a.y b.y (λ h. inl (before_from_cases a b (inr (e, h)))) (λ h. by_lt_z b.y a.y (λ k. inr (inr (before_from_cases b a (inr (sym e, k))))) (λ k. inr (inl (ap₂ spot e (omega (arith, ints))))))
 
 record Inserted (s : Spot) (ps : List Spot) : Type 0 where
   pub list : List Spot

@@ -14,6 +14,7 @@ use Rattle.integer_laws.specs.Members.{In}
 use Rattle.seq_model.specs.declared.printer.Spot.{Spot}
 use Rattle.seq_model.specs.Points.{Point, IsPoint}
 use Rattle.seq_model.specs.Outlines.{IsMean, Inner, Within}
+use Rattle.model_laws.specs.Turning.{corners_by_list}
 use Rattle.convex_outline.specs.Corners.{turn, turn_at, at_spot, AreCorners, IsBefore}
 use Rattle.convex_outline.specs.Vectors.{height, opposite}
 use Rattle.convex_outline.specs.Means.{inner_below, inner_level, inner_of_corners, same_members, member_within}
@@ -40,8 +41,8 @@ keeps_itself : (S : List Spot) → Keeps S S
 keeps_itself S = record { members = λ s i. i; within = λ s i. member_within s S i; to_list = λ q m. m; to_corners = λ q m. m }
 
 pub short_hull : (S : List Spot) → length S < 2 → Hull S S
-short_hull [] h = record { corners = record { least = tt; left = tt }; keeps = keeps_itself [] }
-short_hull (s ∷ []) h = record { corners = record { least = All-nil (IsBefore s); left = (tt, tt) }; keeps = keeps_itself (s ∷ []) }
+short_hull [] h = record { corners = corners_by_list [] tt tt; keeps = keeps_itself [] }
+short_hull (s ∷ []) h = record { corners = corners_by_list (s ∷ []) (All-nil (IsBefore s)) (tt, tt); keeps = keeps_itself (s ∷ []) }
 short_hull (s ∷ p ∷ ps) h = absurd (omega arith)
 
 -- ---- on one line

@@ -17,6 +17,7 @@ use Rattle.integer_laws.specs.Members.{In, All-in, All-from_in, Contains-from_in
 use Rattle.seq_model.specs.declared.printer.Spot.{Spot}
 use Rattle.seq_model.specs.Points.{Point, IsPoint}
 use Rattle.seq_model.specs.Outlines.{Inner, Within}
+use Rattle.model_laws.specs.Turning.{least_by_list, left_by_list}
 use Rattle.convex_outline.specs.Corners.{turn, at_spot, IsBefore, LeftAbout, TurnsLeft, HasArea, IsBetween, AreEnds}
 use Rattle.convex_outline.specs.Vectors.{height, opposite, turn_round, turn_flipped, turn_start, turn_end}
 use Rattle.convex_outline.specs.Means.{within_at_most}
@@ -149,7 +150,7 @@ see_members S C u [] w h = tt
 see_members S C u (v ∷ vs) w h = (λ s i. seen_within u v C h.0 s (w s i), see_members S C v vs w h.1)
 
 pub seen_by_edges : (S : List Spot) (a b c : Spot) (cs : List Spot) → Hull S (a ∷ b ∷ c ∷ cs) → Steps (Seen S) (last_of c cs) (a ∷ b ∷ c ∷ cs)
-seen_by_edges S a b c cs h = see_members S (a ∷ b ∷ c ∷ cs) (last_of c cs) (a ∷ b ∷ c ∷ cs) h.keeps.within (polygon_sees a b c cs h.corners.left)
+seen_by_edges S a b c cs h = see_members S (a ∷ b ∷ c ∷ cs) (last_of c cs) (a ∷ b ∷ c ∷ cs) h.keeps.within (polygon_sees a b c cs (left_by_list (a ∷ b ∷ c ∷ cs) h.corners))
 
 pub area_of_three : (S : List Spot) (a b c : Spot) (cs : List Spot) → Hull S (a ∷ b ∷ c ∷ cs) → HasArea S
 area_of_three S a b c cs h =
@@ -160,7 +161,7 @@ area_of_three S a b c cs h =
       i_in = Contains-from_in S a (h.keeps.members a (inl refl));
       j_in = Contains-from_in S b (h.keeps.members b (inr (inl refl)));
       k_in = Contains-from_in S c (h.keeps.members c (inr (inr (inl refl))));
-      turns = All-in (λ x. pos 0 <ℤ turn a b x) (c ∷ cs) c h.corners.left.0.0 (inl refl);
+      turns = All-in (λ x. pos 0 <ℤ turn a b x) (c ∷ cs) c (left_by_list (a ∷ b ∷ c ∷ cs) h.corners).0.0 (inl refl);
     }
 
 -- ---- the ends of the order
@@ -247,7 +248,7 @@ least_of_list S c cs h s i = within_above (c ∷ cs) c s after (h.keeps.within s
   where
     after : (x : Spot) → In x (c ∷ cs) → (x ≡ c) ⊎ IsBefore c x
     after x (inl e) = inl e
-    after x (inr j) = inr (All-in (IsBefore c) cs x h.corners.least j)
+    after x (inr j) = inr (All-in (IsBefore c) cs x (least_by_list (c ∷ cs) h.corners) j)
 
 pub no_mean : (q : Point) → Within [] q → ⊥
 no_mean q m = let some = m.some in absurd (omega (arith, ints))
@@ -260,10 +261,9 @@ one_corner S a h s i = pick (least_of_list S a [] h s i) (within_below (a ∷ []
     only x (inr j) = absurd j
 
     never : IsBefore a s → IsBefore s a → ⊥
-    never (inl h) (inl k) = omega (arith, ints)
-    never (inl h) (inr k) = let e = k.0 in omega (arith, ints)
-    never (inr h) (inl k) = let e = h.0 in omega (arith, ints)
-    never (inr h) (inr k) = let x = h.1 in let y = k.1 in omega (arith, ints)
+    never h k =
+        let e : a.x ≡ s.x = omega (arith, ints, h.0, k.0) in
+        omega (arith, ints, h.1 e, k.1 (sym e))
 
     pick : ((s ≡ a) ⊎ IsBefore a s) → ((s ≡ a) ⊎ IsBefore s a) → s ≡ a
     pick (inl e) r = e
@@ -275,14 +275,14 @@ ends_of_line [] [] h flat = refl
 ends_of_line (s ∷ S) [] h flat = absurd (no_mean (at_spot s) (h.keeps.within s (inl refl)))
 ends_of_line S (a ∷ []) h flat = (Contains-from_in S a (h.keeps.members a (inl refl)), All-from_in (λ s. s ≡ a) S (one_corner S a h))
 ends_of_line S (a ∷ b ∷ []) h flat = (
-  All-in (IsBefore a) (b ∷ []) b h.corners.least (inl refl),
+  All-in (IsBefore a) (b ∷ []) b (least_by_list (a ∷ b ∷ []) h.corners) (inl refl),
   Contains-from_in S a (h.keeps.members a (inl refl)),
   Contains-from_in S b (h.keeps.members b (inr (inl refl))),
   All-from_in (IsBetween a b) S (λ s i. record { from = least_of_list S a (b ∷ []) h s i; to = within_below (a ∷ b ∷ []) b s upto (h.keeps.within s i) }),
 )
   where
     upto : (x : Spot) → In x (a ∷ b ∷ []) → (x ≡ b) ⊎ IsBefore x b
-    upto x (inl e) = inr (subst (λ y. IsBefore y b) (sym e) (All-in (IsBefore a) (b ∷ []) b h.corners.least (inl refl)))
+    upto x (inl e) = inr (subst (λ y. IsBefore y b) (sym e) (All-in (IsBefore a) (b ∷ []) b (least_by_list (a ∷ b ∷ []) h.corners) (inl refl)))
     upto x (inr (inl e)) = inl e
     upto x (inr (inr j)) = absurd j
 ends_of_line S (a ∷ b ∷ c ∷ cs) h flat = absurd (flat (area_of_three S a b c cs h))

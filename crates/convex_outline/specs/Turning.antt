@@ -1,6 +1,6 @@
 -- A closed way that turns left at each corner, once around its lowest one, turns left at any three of its corners.
 --
---   LeftAbout o vs      the corners stand counterclockwise about o (one of the words of the contracts)
+--   LeftAbout o vs      the corners stand counterclockwise about o (a word of `model_laws`)
 --   about_lowest        corners that go counterclockwise about o one by one, all above it, do so for any two
 --   LocallyLeft vs      the way along vs turns left at each corner between
 --   any_three           then any three of vs turn left

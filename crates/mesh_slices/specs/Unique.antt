@@ -11,8 +11,9 @@ use Rattle.integer_laws.specs.Order.{same_from, add_same, mul_same, cancel_same}
 use Rattle.integer_laws.specs.Ring.{expand}
 use Rattle.seq_model.specs.declared.printer.Spot.{Spot}
 use Rattle.seq_model.specs.Outlines.{Within}
+use Rattle.model_laws.specs.Turning.{left_by_list, by_the_list}
 use Rattle.convex_outline.specs.Area.{three_of_area}
-use Rattle.convex_outline.specs.Corners.{turn, at_spot, IsBefore, IsBetween, AreEnds, AreCorners, LeftAbout, HasArea}
+use Rattle.convex_outline.specs.Corners.{turn, at_spot, IsBefore, IsBetween, AreEnds, StartsLeast, LeftAbout, TurnsLeft, HasArea}
 use Rattle.convex_outline.specs.Keeping.{Hull}
 use Rattle.convex_outline.specs.Laws.{polygon_turns, polygon_sees, seen_within, area_of_three, ends_of_line}
 use Rattle.convex_outline.specs.Means.{within_at_most}
@@ -22,14 +23,12 @@ use Rattle.mesh_slices.specs.Objects.{IsOutlineOf}
 
 -- ---- on one line
 never_before : (a : Spot) → IsBefore a a → ⊥
-never_before a (inl h) = absurd (omega (arith, ints))
-never_before a (inr h) = let l = h.1 in absurd (omega (arith, ints))
+never_before a h = let l = h.1 refl in absurd (omega (arith, ints))
 
 not_both : (a b : Spot) → IsBefore a b → IsBefore b a → ⊥
-not_both a b (inl h) (inl k) = absurd (omega (arith, ints))
-not_both a b (inl h) (inr k) = let e = k.0 in absurd (omega (arith, ints))
-not_both a b (inr h) (inl k) = let e = h.0 in absurd (omega (arith, ints))
-not_both a b (inr h) (inr k) = let x = h.1 in let y = k.1 in absurd (omega (arith, ints))
+not_both a b h k =
+    let e : a.x ≡ b.x = omega (arith, ints, h.0, k.0) in
+    absurd (omega (arith, ints, h.1 e, k.1 (sym e)))
 
 -- neither lies before the other
 meet : (a b : Spot) → (b ≡ a) ⊎ IsBefore a b → (a ≡ b) ⊎ IsBefore b a → a ≡ b
@@ -168,10 +167,10 @@ corner_of_both S a b e cs D h k c i = pick (look w.from c w.to D)
     C = a ∷ b ∷ e ∷ cs
 
     sees : Steps (Seen C) (last_of e cs) C
-    sees = polygon_sees a b e cs h.corners.left
+    sees = polygon_sees a b e cs (left_by_list C h.corners)
 
     w : Pointed C c
-    w = pointed C c (last_of e cs) C a sees (polygon_turns a b e cs h.corners.left) sees.0 i
+    w = pointed C c (last_of e cs) C a sees (polygon_turns a b e cs (left_by_list C h.corners)) sees.0 i
 
     within : (d : Spot) → In d D → Within C (at_spot d)
     within d j = h.keeps.within d (k.keeps.members d j)
@@ -213,11 +212,11 @@ same_about o (b ∷ bs) (d ∷ ds) l m f g = ap₂ (λ x xs. x ∷ xs) first (sa
     back x i (inl e) = absurd (not_itself o d (subst (λ c. pos 0 <ℤ turn o d c) (e ∙ first) (All-in (λ c. pos 0 <ℤ turn o d c) ds x m.0 i)))
     back x i (inr j) = j
 
-same_order : (C D : List Spot) → AreCorners C → AreCorners D → ((x : Spot) → In x C → In x D) → ((x : Spot) → In x D → In x C) → C ≡ D
+same_order : (C D : List Spot) → StartsLeast C × TurnsLeft C → StartsLeast D × TurnsLeft D → ((x : Spot) → In x C → In x D) → ((x : Spot) → In x D → In x C) → C ≡ D
 same_order [] [] c d f g = refl
 same_order [] (d ∷ ds) c e f g = absurd (g d (inl refl))
 same_order (b ∷ bs) [] c e f g = absurd (f b (inl refl))
-same_order (b ∷ bs) (d ∷ ds) c e f g = ap₂ (λ x xs. x ∷ xs) first (same_about b bs ds c.left.0 (subst (λ o. LeftAbout o ds) (sym first) e.left.0) (λ x i. there x i (f x (inr i))) (λ x i. back x i (g x (inr i))))
+same_order (b ∷ bs) (d ∷ ds) c e f g = ap₂ (λ x xs. x ∷ xs) first (same_about b bs ds c.1.0 (subst (λ o. LeftAbout o ds) (sym first) e.1.0) (λ x i. there x i (f x (inr i))) (λ x i. back x i (g x (inr i))))
   where
     first : b ≡ d
     first = pick (f b (inl refl)) (g d (inl refl))
@@ -225,14 +224,14 @@ same_order (b ∷ bs) (d ∷ ds) c e f g = ap₂ (λ x xs. x ∷ xs) first (same
         pick : (b ≡ d) ⊎ In b ds → (d ≡ b) ⊎ In d bs → b ≡ d
         pick (inl q) r = q
         pick (inr i) (inl q) = sym q
-        pick (inr i) (inr j) = absurd (not_both b d (All-in (IsBefore b) bs d c.least j) (All-in (IsBefore d) ds b e.least i))
+        pick (inr i) (inr j) = absurd (not_both b d (All-in (IsBefore b) bs d c.0 j) (All-in (IsBefore d) ds b e.0 i))
 
     there : (x : Spot) → In x bs → (x ≡ d) ⊎ In x ds → In x ds
-    there x i (inl q) = absurd (never_before b (subst (IsBefore b) (q ∙ sym first) (All-in (IsBefore b) bs x c.least i)))
+    there x i (inl q) = absurd (never_before b (subst (IsBefore b) (q ∙ sym first) (All-in (IsBefore b) bs x c.0 i)))
     there x i (inr j) = j
 
     back : (x : Spot) → In x ds → (x ≡ b) ⊎ In x bs → In x bs
-    back x i (inl q) = absurd (never_before d (subst (IsBefore d) (q ∙ first) (All-in (IsBefore d) ds x e.least i)))
+    back x i (inl q) = absurd (never_before d (subst (IsBefore d) (q ∙ first) (All-in (IsBefore d) ds x e.0 i)))
     back x i (inr j) = j
 
 -- ---- one outline
@@ -250,7 +249,7 @@ one_hull S (a ∷ b ∷ e ∷ cs) D h k = with_area D (three_of_area S D k (area
     with_area (d ∷ []) p k = absurd (omega arith)
     with_area (d ∷ f ∷ []) p k = absurd (omega arith)
     with_area (d ∷ f ∷ g ∷ ds) p k =
-        same_order (a ∷ b ∷ e ∷ cs) (d ∷ f ∷ g ∷ ds) h.corners k.corners (corner_of_both S a b e cs (d ∷ f ∷ g ∷ ds) h k) (corner_of_both S d f g ds (a ∷ b ∷ e ∷ cs) k h)
+        same_order (a ∷ b ∷ e ∷ cs) (d ∷ f ∷ g ∷ ds) ((by_the_list (a ∷ b ∷ e ∷ cs)).0 h.corners) ((by_the_list (d ∷ f ∷ g ∷ ds)).0 k.corners) (corner_of_both S a b e cs (d ∷ f ∷ g ∷ ds) h k) (corner_of_both S d f g ds (a ∷ b ∷ e ∷ cs) k h)
 one_hull S [] D h k = flat_hull S [] D h k (omega arith)
 one_hull S (a ∷ []) D h k = flat_hull S (a ∷ []) D h k (omega arith)
 one_hull S (a ∷ b ∷ []) D h k = flat_hull S (a ∷ b ∷ []) D h k (omega arith)

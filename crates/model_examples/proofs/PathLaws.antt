@@ -1,5 +1,6 @@
 -- Paths of two cubes, and lists of choices that are none.
 use Rattle.std.proofs.Common.{[], ◌∷◌, ap, arith, lit<, refl, inl, inr, pos, Contains}
+use Rattle.std.proofs.lemmas.Int.{ints}
 use Rattle.integer_laws.specs.Members.{In, In-from_contains}
 use Rattle.model_examples.specs.Certificates.{before, beyond, four_sides}
 use Rattle.model_examples.specs.Cubes.{first_contact, east, northeast, north, west, south}
@@ -28,8 +29,8 @@ pub no_side : IsPath two_cubes (before 0 1 ∷ beyond northeast ∷ []) → ⊥
 no_side path = among (In-from_contains four_sides northeast ((cube_sides.each northeast).1 (path (before 0 1 ∷ []) [] first_contact northeast refl).1))
   where
     among : In northeast four_sides → ⊥
-    among (inl e) = absurd (omega (arith, ap (λ (d : Dir). d.y) e))
-    among (inr (inl e)) = absurd (omega (arith, ap (λ (d : Dir). d.x) e))
-    among (inr (inr (inl e))) = absurd (omega (arith, ap (λ (d : Dir). d.x) e))
-    among (inr (inr (inr (inl e)))) = absurd (omega (arith, ap (λ (d : Dir). d.x) e))
+    among (inl e) = absurd (omega (arith, ints, ap (λ (d : Dir). d.y) e))
+    among (inr (inl e)) = absurd (omega (arith, ints, ap (λ (d : Dir). d.x) e))
+    among (inr (inr (inl e))) = absurd (omega (arith, ints, ap (λ (d : Dir). d.x) e))
+    among (inr (inr (inr (inl e)))) = absurd (omega (arith, ints, ap (λ (d : Dir). d.x) e))
     among (inr (inr (inr (inr none)))) = none

@@ -5,11 +5,11 @@
 --   two_cubes, two_wedges, three_cubes   jobs of cubes and wedges of two bands
 --   tall_and_low               a cube of four bands and one of two
 --   cube_on_a_narrow_plate     one cube, on a plate of 100 by 50
-use Rattle.std.proofs.Common.{◌≡◌, ◌∙◌, sym, subst, ◌<◌, ◌≤◌, List, [], ◌∷◌, length, refl, pos, negsuc, true, None, inl, inr, lit<, lit≤, codes, arith}
+use Rattle.std.proofs.Common.{◌≡◌, ◌∙◌, sym, subst, ◌<◌, ◌≤◌, List, [], ◌∷◌, length, refl, pos, negsuc, true, None, lit<, lit≤, codes, arith}
 use Rattle.std.proofs.lemmas.Option.{none-some, same_Some}
-use lib.Signed.{le_z_yes, lt_z_yes}
+use lib.Signed.{le_z_yes}
 use Rattle.seq_model.specs.Bounds.{IsPrinter}
-use Rattle.seq_model.specs.Corners.{IsBefore, AreCorners}
+use Rattle.seq_model.specs.Corners.{AreCorners}
 use Rattle.seq_model.specs.Parts.{tip, IsPartName, IsSoundPart, AreParts}
 use Rattle.seq_model.specs.Soundness.{IsSoundZone, AreExtremes, IsSoundObject, AreSoundObjects}
 use Rattle.seq_model.specs.declared.job.Job.{Job}
@@ -18,27 +18,23 @@ use Rattle.seq_model.specs.declared.job.Zone.{Zone}
 use Rattle.seq_model.specs.declared.printer.Part.{Part}
 use Rattle.seq_model.specs.declared.printer.Printer.{Printer}
 use Rattle.seq_model.specs.declared.printer.Spot.{Spot}
-use Rattle.model_examples.specs.Deciding.{EachOf, all_of, turns_left, turns_left_is, are_near, are_near_is}
+use Rattle.model_examples.specs.Deciding.{all_of, are_corners_is, are_near, are_near_is}
 use Rattle.model_examples.specs.Cubes.{spot, cube, wedge, nozzle, gantry, object_of}
 
--- its corners lie to the right of the first, or above it at the same x
-pub first_of : (c : Spot) (cs : List Spot) → EachOf (IsBefore c) cs → turns_left (c ∷ cs) ≡ true → AreCorners (c ∷ cs)
-first_of c cs e left = record { least = all_of (IsBefore c) cs e; left = turns_left_is (c ∷ cs) left }
-
 origin_corners : AreCorners (spot (pos 0) (pos 0) ∷ [])
-origin_corners = first_of (spot (pos 0) (pos 0)) [] tt refl
+origin_corners = are_corners_is (spot (pos 0) (pos 0) ∷ []) refl
 
 nozzle_corners : AreCorners nozzle
-nozzle_corners = first_of (spot (negsuc 1) (negsuc 1)) (spot (pos 2) (negsuc 1) ∷ spot (pos 2) (pos 2) ∷ spot (negsuc 1) (pos 2) ∷ []) (inl (lt_z_yes tt), (inl (lt_z_yes tt), (inr (refl, lt_z_yes tt), tt))) refl
+nozzle_corners = are_corners_is nozzle refl
 
 gantry_corners : AreCorners gantry
-gantry_corners = first_of (spot (negsuc 100) (negsuc 9)) (spot (pos 101) (negsuc 9) ∷ spot (pos 101) (pos 10) ∷ spot (negsuc 100) (pos 10) ∷ []) (inl (lt_z_yes tt), (inl (lt_z_yes tt), (inr (refl, lt_z_yes tt), tt))) refl
+gantry_corners = are_corners_is gantry refl
 
 cube_corners : AreCorners cube
-cube_corners = first_of (spot (negsuc 0) (negsuc 0)) (spot (pos 21) (negsuc 0) ∷ spot (pos 21) (pos 21) ∷ spot (negsuc 0) (pos 21) ∷ []) (inl (lt_z_yes tt), (inl (lt_z_yes tt), (inr (refl, lt_z_yes tt), tt))) refl
+cube_corners = are_corners_is cube refl
 
 wedge_corners : AreCorners wedge
-wedge_corners = first_of (spot (negsuc 0) (negsuc 0)) (spot (pos 21) (negsuc 0) ∷ spot (pos 21) (pos 1) ∷ spot (pos 1) (pos 21) ∷ spot (negsuc 0) (pos 21) ∷ []) (inl (lt_z_yes tt), (inl (lt_z_yes tt), (inl (lt_z_yes tt), (inr (refl, lt_z_yes tt), tt)))) refl
+wedge_corners = are_corners_is wedge refl
 
 -- ---- the parts and the printer
 pub sound_tip : IsSoundPart tip

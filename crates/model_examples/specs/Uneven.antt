@@ -10,9 +10,9 @@
 --   slope, slope_then_west      the direction (9, 5); the path on which the house comes first, and the brick stands beyond that side of the
 --                               roof and to the west of the walls
 --   uneven_rows                 the system of this path at extent 46
-use Rattle.std.proofs.Common.{List, [], ◌∷◌, ℤ, pos, negsuc, refl, ◌<◌, None, inl, inr, lit<, lit≤, codes, arith}
+use Rattle.std.proofs.Common.{List, [], ◌∷◌, ℤ, pos, negsuc, refl, ◌<◌, None, lit<, lit≤, codes, arith}
 use Rattle.std.proofs.lemmas.List.Kept.{AllPairs-cons}
-use lib.Signed.{le_z_yes, lt_z_yes}
+use lib.Signed.{le_z_yes}
 use Rattle.seq_model.specs.Bounds.{IsPrinter}
 use Rattle.seq_model.specs.Corners.{AreCorners}
 use Rattle.seq_model.specs.Parts.{tip, IsSoundPart, AreParts}
@@ -29,8 +29,8 @@ use Rattle.seq_model.specs.declared.tree.Choice.TheVariants as Choices
 use Rattle.seq_model.specs.declared.tree.Contact.{Contact}
 use Rattle.seq_model.specs.declared.tree.Dir.{Dir}
 use Rattle.model_examples.specs.Cubes.{spot, dir, west}
-use Rattle.model_examples.specs.Deciding.{all_of, are_near_is}
-use Rattle.model_examples.specs.Jobs.{first_of, sound_tip, sound_part}
+use Rattle.model_examples.specs.Deciding.{all_of, are_corners_is, are_near_is}
+use Rattle.model_examples.specs.Jobs.{sound_tip, sound_part}
 use Rattle.model_examples.specs.Rows.{row}
 
 abbrev pub box : ℤ → ℤ → ℤ → ℤ → List Spot
@@ -41,7 +41,7 @@ abbrev pub shoe_corners : List Spot
 shoe_corners = box (negsuc 0) (negsuc 2) (pos 5) (pos 2)
 
 shoe_is : AreCorners shoe_corners
-shoe_is = first_of (spot (negsuc 0) (negsuc 2)) (spot (pos 5) (negsuc 2) ∷ spot (pos 5) (pos 2) ∷ spot (negsuc 0) (pos 2) ∷ []) (inl (lt_z_yes tt), (inl (lt_z_yes tt), (inr (refl, lt_z_yes tt), tt))) refl
+shoe_is = are_corners_is shoe_corners refl
 
 abbrev pub shoe : Part
 shoe = record { name = codes "shoe"; corners = shoe_corners; lo = 0; hi = None }
@@ -63,7 +63,7 @@ abbrev pub brick_zone : Zone
 brick_zone = record { corners = box (negsuc 2) (negsuc 0) (pos 7) (pos 4); first = 0; last = 1 }
 
 brick_corners : AreCorners (box (negsuc 2) (negsuc 0) (pos 7) (pos 4))
-brick_corners = first_of (spot (negsuc 2) (negsuc 0)) (spot (pos 7) (negsuc 0) ∷ spot (pos 7) (pos 4) ∷ spot (negsuc 2) (pos 4) ∷ []) (inl (lt_z_yes tt), (inl (lt_z_yes tt), (inr (refl, lt_z_yes tt), tt))) refl
+brick_corners = are_corners_is (box (negsuc 2) (negsuc 0) (pos 7) (pos 4)) refl
 
 abbrev pub brick : Object
 brick = record { name = []; height = pos 20000; bands = 2; low = spot (negsuc 2) (negsuc 0); high = spot (pos 7) (pos 4); zones = brick_zone ∷ [] }
@@ -84,13 +84,13 @@ abbrev pub walls : Zone
 walls = record { corners = box (negsuc 0) (negsuc 1) (pos 15) (pos 9); first = 0; last = 1 }
 
 walls_corners : AreCorners (box (negsuc 0) (negsuc 1) (pos 15) (pos 9))
-walls_corners = first_of (spot (negsuc 0) (negsuc 1)) (spot (pos 15) (negsuc 1) ∷ spot (pos 15) (pos 9) ∷ spot (negsuc 0) (pos 9) ∷ []) (inl (lt_z_yes tt), (inl (lt_z_yes tt), (inr (refl, lt_z_yes tt), tt))) refl
+walls_corners = are_corners_is (box (negsuc 0) (negsuc 1) (pos 15) (pos 9)) refl
 
 abbrev pub roof : Zone
 roof = record { corners = spot (pos 2) (pos 1) ∷ spot (pos 12) (pos 1) ∷ spot (pos 7) (pos 10) ∷ []; first = 2; last = 3 }
 
 roof_corners : AreCorners (spot (pos 2) (pos 1) ∷ spot (pos 12) (pos 1) ∷ spot (pos 7) (pos 10) ∷ [])
-roof_corners = first_of (spot (pos 2) (pos 1)) (spot (pos 12) (pos 1) ∷ spot (pos 7) (pos 10) ∷ []) (inl (lt_z_yes tt), (inl (lt_z_yes tt), tt)) refl
+roof_corners = are_corners_is (spot (pos 2) (pos 1) ∷ spot (pos 12) (pos 1) ∷ spot (pos 7) (pos 10) ∷ []) refl
 
 abbrev pub house : Object
 house = record { name = []; height = pos 40000; bands = 4; low = spot (negsuc 0) (negsuc 1); high = spot (pos 15) (pos 10); zones = walls ∷ roof ∷ [] }

@@ -4,3 +4,4 @@ pub mod Grounds
 pub mod Nested
 pub mod Reading
 pub mod Roots
+pub mod Turning

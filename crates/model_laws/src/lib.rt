@@ -8,6 +8,7 @@
 #![tactic(auto)]
 
 pub mod collisions;
+pub mod corners;
 pub mod extents;
 pub mod rows;
 pub mod splits;

@@ -5,9 +5,10 @@ use Rattle.std.proofs.lemmas.List.{length-append, drop_all}
 use Rattle.std.proofs.lemmas.List.Elements.{All-nil, All-cons, All-append}
 use Rattle.integer_laws.specs.Members.{In, In-from_contains, Contains-from_in, All-in, All-from_in}
 use Rattle.integer_laws.specs.Weights.{total}
+use Rattle.model_laws.specs.Turning.{LeftAbout, least_by_list, left_by_list, corners_by_list}
 use Rattle.convex_outline.specs.Corners.{at_spot, IsNear}
 use Rattle.seq_model.specs.Bounds.{IsNearSpot}
-use Rattle.seq_model.specs.Corners.{turn, IsBefore, LeftAbout, AreCorners}
+use Rattle.seq_model.specs.Corners.{turn, IsBefore, AreCorners}
 use Rattle.seq_model.specs.Outlines.{Inner, Within}
 use Rattle.seq_model.specs.Parts.{tip, IsPartName, IsSoundPart}
 use Rattle.seq_model.specs.Points.{Point}
@@ -78,15 +79,14 @@ left_apart a (b ∷ cs) h = (other, left_apart a cs h.1)
         no_turn (b.x -ℤ a.x) (b.y -ℤ a.y) (subst P e turns)
 
 never_before : (c : Spot) → IsBefore c c → ⊥
-never_before c (inl h) = omega (arith, ints)
-never_before c (inr h) = (let k = h.1 in omega (arith, ints))
+never_before c h = (let k = h.1 refl in omega (arith, ints))
 
 apart : (C : List Spot) → AreCorners C → Apart C
 apart [] h = tt
-apart (c ∷ cs) h = (other, left_apart c cs h.left.0)
+apart (c ∷ cs) h = (other, left_apart c cs (left_by_list (c ∷ cs) h).0)
   where
     other : (d : Spot) → In d cs → d ≡ c → ⊥
-    other d i e = never_before c (subst (IsBefore c) e (All-in (IsBefore c) cs d h.least i))
+    other d i e = never_before c (subst (IsBefore c) e (All-in (IsBefore c) cs d (least_by_list (c ∷ cs) h) i))
 
 -- ---- a hull of a point has a corner
 
@@ -137,7 +137,7 @@ kept_tip = record {
   name = refl;
   lo = refl;
   hi = refl;
-  corners = record { least = All-nil _; left = (tt, tt) };
+  corners = corners_by_list tip.corners (All-nil _) (tt, tt);
   members = All-from_in (Contains tip.corners) tip.corners (λ s i. Contains-from_in tip.corners s i);
   within = All-from_in (λ s. Within tip.corners (at_spot s)) tip.corners at;
   inner = λ q. (λ h. h, λ h. h);
