@@ -1,9 +1,9 @@
 -- Paths of two cubes, and lists of choices that are none.
-use Rattle.std.proofs.Common.{[], ◌∷◌, ap, arith, lit<, refl, inl, inr, pos, Contains}
+use Rattle.std.proofs.Common.{[], ◌∷◌, ap, arith, lit<, refl, inl, inr}
 use Rattle.std.proofs.lemmas.Int.{ints}
 use Rattle.integer_laws.specs.Members.{In, In-from_contains}
 use Rattle.model_examples.specs.Certificates.{before, beyond, four_sides}
-use Rattle.model_examples.specs.Cubes.{first_contact, east, northeast, north, west, south}
+use Rattle.model_examples.specs.Cubes.{first_contact, east, northeast}
 use Rattle.model_examples.specs.Jobs.{two_cubes}
 use Rattle.model_examples.proofs.SideLaws.{cube_sides}
 use Rattle.model_examples.proofs.TreeLaws.{is_first}
