@@ -4,4 +4,5 @@ pub mod Grounds
 pub mod Nested
 pub mod Reading
 pub mod Roots
+pub mod SamePoints
 pub mod Turning

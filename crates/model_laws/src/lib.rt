@@ -10,6 +10,7 @@
 pub mod collisions;
 pub mod corners;
 pub mod extents;
+pub mod points;
 pub mod rows;
 pub mod splits;
 pub mod trees;
