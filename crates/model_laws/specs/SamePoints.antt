@@ -9,8 +9,9 @@
 --   SamePlaces plan other         two plans, each over its scale, move the same objects to the same points, in the same order
 --   same_counts                   so each object stands in both as often
 --   lies_at_same                  a moved spot lies in a region over the one scale where it does over the other
+--   collides_at_places            what collides at two places does at the same ones over another scale
 --   valid_at_same_places          and a plan over another scale is valid where this one is
-use Rattle.std.proofs.Common.{◌≡◌, ℕ, zero, suc, ◌+◌, ◌<◌, List, [], ◌∷◌, length, get_or, sym, ap, subst, ◌∙◌, refl, arith, ℤ, pos, ◌+ℤ◌, ◌-ℤ◌, ◌*ℤ◌, ◌≤ℤ◌, ◌<ℤ◌, All, AllPairs}
+use Rattle.std.proofs.Common.{◌≡◌, ℕ, ◌+◌, ◌<◌, List, [], ◌∷◌, length, get_or, sym, ap, subst, ◌∙◌, refl, arith, ℤ, pos, ◌+ℤ◌, ◌-ℤ◌, ◌*ℤ◌, ◌≤ℤ◌, ◌<ℤ◌, All}
 use Rattle.std.proofs.lemmas.Int.{ints}
 use Rattle.std.proofs.lemmas.List.Elements.{AllZip-get_or, length_all_zip}
 use Rattle.std.proofs.lemmas.List.Sums.{sum_by-cons}
@@ -131,6 +132,19 @@ lies_at_same region D E p q s d e same l =
       north = high_number D E (region.low.y +ℤ region.h) s.y p.y q.y d not_negative same.y l.north;
     }
 
+-- the objects of two places that collide over the scale E do at the same places over D
+pub collides_at_places : (scene : Scene) (D E : ℤ) (p r p' r' : Place) → pos 1 ≤ℤ D → SamePlace D E p p' → SamePlace D E r r'
+    → Collides scene p'.object (place_point E p') r'.object (place_point E r') → Collides scene p.object (place_point D p) r.object (place_point D r)
+collides_at_places scene D E p r p' r' one first second k =
+    let at_p = place_point D p in
+    let at_r = place_point D r in
+    let at_p' = place_point E p' in
+    let at_r' = place_point E r' in
+    let same_p = same_turned at_p at_p' first.point in
+    let same_r = same_turned at_r at_r' second.point in
+    let moved = collides_at_same scene p'.object r'.object at_p' at_r' at_p at_r k (record { positive = one }) (record { positive = one }) same_p same_r in
+    subst (λ i. Collides scene i at_p r.object at_r) (sym first.object) (subst (λ j. Collides scene p'.object at_p j at_r) (sym second.object) moved)
+
 pub valid_at_same_places : (scene : Scene) (e : ℕ) (plan other : Plan) → pos 1 ≤ℤ other.scale → SamePlaces plan other → Valid scene e plan → Valid scene e other
 valid_at_same_places scene e plan other one same v = record {
   from_one = v.from_one;
@@ -138,35 +152,23 @@ valid_at_same_places scene e plan other one same v = record {
   scale = one;
   known = λ n q l. subst (λ o. o < scene.objects) (at n q l).object (v.known n q (below n l));
   once = λ o l. sym (same_counts plan.scale other.scale o plan.places other.places same) ∙ v.once o l;
-  inside = λ n q l. inside_one n q l;
-  apart = λ i j q l m k. apart_two i j q l m k;
+  inside = λ n q l. subst (λ o. (b : ℕ) → b < scene.bands o → All (LiesIn region other.scale (get_or other.places n q)) (scene.spots o b)) (at n q l).object (lie n q l);
+  apart = λ i j q l m k. v.apart i j q l (below j m)
+      (collides_at_places scene plan.scale other.scale (get_or plan.places i q) (get_or plan.places j q) (get_or other.places i q) (get_or other.places j q) v.scale
+      (at i q (omega (arith, l, m))) (at j q m) k);
 }
   where
+    region : Region
+    region = region_of scene.width scene.depth scene.grid e
+
     below : (n : ℕ) → n < length other.places → n < length plan.places
-    below n l = let e = length_all_zip (SamePlace plan.scale other.scale) plan.places other.places same in omega (arith, l, e)
+    below n l = let many = length_all_zip (SamePlace plan.scale other.scale) plan.places other.places same in omega (arith, l, many)
 
     at : (n : ℕ) (q : Place) → n < length other.places → SamePlace plan.scale other.scale (get_or plan.places n q) (get_or other.places n q)
     at n q l = AllZip-get_or (SamePlace plan.scale other.scale) plan.places other.places n q q same (below n l)
 
-    inside_one : (n : ℕ) (q : Place) → n < length other.places → (b : ℕ) → b < scene.bands (get_or other.places n q).object
-        → All (LiesIn (region_of scene.width scene.depth scene.grid e) other.scale (get_or other.places n q)) (scene.spots (get_or other.places n q).object b)
-    inside_one n q l = subst
-        (λ o. (b : ℕ) → b < scene.bands o → All (LiesIn (region_of scene.width scene.depth scene.grid e) other.scale (get_or other.places n q)) (scene.spots o b))
-        (at n q l).object
-        (λ b m k s h. lies_at_same (region_of scene.width scene.depth scene.grid e) plan.scale other.scale (get_or plan.places n q) (get_or other.places n q)
-            (get_or (scene.spots (get_or plan.places n q).object b) k s) v.scale one (at n q l).point (v.inside n q (below n l) b m k s h))
-
-    apart_two : (i j : ℕ) (q : Place) → i < j → (m : j < length other.places)
-        → Collides scene (get_or other.places i q).object (place_point other.scale (get_or other.places i q)) (get_or other.places j q).object (place_point other.scale (get_or other.places j q)) → ⊥
-    apart_two i j q l m k =
-        let is : (p : Place) → IsPoint (place_point plan.scale p) = λ p. record { positive = v.scale } in
-        let first = at i q (omega (arith, l, m)) in
-        let second = at j q m in
-        let p = place_point plan.scale (get_or plan.places i q) in
-        let r = place_point plan.scale (get_or plan.places j q) in
-        v.apart i j q l (below j m)
-            (subst (λ o. Collides scene o p (get_or plan.places j q).object r) (sym first.object)
-                (subst (λ o. Collides scene (get_or other.places i q).object p o r) (sym second.object)
-                    (collides_at_same scene (get_or other.places i q).object (get_or other.places j q).object (place_point other.scale (get_or other.places i q))
-                        (place_point other.scale (get_or other.places j q)) p r k (is (get_or plan.places i q)) (is (get_or plan.places j q))
-                        (same_turned p (place_point other.scale (get_or other.places i q)) first.point) (same_turned r (place_point other.scale (get_or other.places j q)) second.point))))
+    lie : (n : ℕ) (q : Place) → n < length other.places → (b : ℕ) → b < scene.bands (get_or plan.places n q).object
+        → All (LiesIn region other.scale (get_or other.places n q)) (scene.spots (get_or plan.places n q).object b)
+    lie n q l b m k s h =
+        let spot = get_or (scene.spots (get_or plan.places n q).object b) k s in
+        lies_at_same region plan.scale other.scale (get_or plan.places n q) (get_or other.places n q) spot v.scale one (at n q l).point (v.inside n q (below n l) b m k s h)
