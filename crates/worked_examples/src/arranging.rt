@@ -1,6 +1,5 @@
 use crate::meshes::{block, blocks, cube_with_a_dropped_facet, exported_cube, open_cube};
-use crate::runs::{PLAN, PLATE, run_in_memory};
-use seq_io::{MemFile, MemShelf, ReadAll, Shelf, read_all};
+use crate::runs::{Failing, PLAN, PLATE, run_in_memory, run_with_failures};
 use std::test::Fail;
 
 const SMALL_PLATE: &[u8] =
@@ -33,7 +32,7 @@ fn one_mesh_has_a_plan_or_a_certificate(rt: HostRuntime) -> Result<(), Fail> {
         ),
     ];
     for (printer, mesh, status, text) in cases {
-        let done = run_in_memory(alloc, printer, "a.stl", mesh, &words, &[], &[])?;
+        let done = run_in_memory(alloc, printer, mesh, &words)?;
         assert_eq!(rt; done.status, status);
         assert_eq!(rt; done.out.taken(), text);
         assert_eq!(rt; done.err.taken(), b"".as_slice());
@@ -71,7 +70,7 @@ fn a_mesh_that_is_open_inverted_or_cleaned_is_noted(rt: HostRuntime) -> Result<(
         ),
     ];
     for (printer, mesh, status, text, line) in cases {
-        let done = run_in_memory(alloc, printer, "a.stl", mesh, &words, &[], &[])?;
+        let done = run_in_memory(alloc, printer, mesh, &words)?;
         assert_eq!(rt; done.status, status);
         assert_eq!(rt; done.out.taken(), text);
         assert_eq!(rt; done.err.taken(), line);
@@ -100,7 +99,7 @@ fn a_strict_run_refuses_what_is_open_or_inverted(rt: HostRuntime) -> Result<(), 
         ),
     ];
     for (mesh, status, text, line) in cases {
-        let done = run_in_memory(alloc, PLATE, "a.stl", mesh, &words, &[], &[])?;
+        let done = run_in_memory(alloc, PLATE, mesh, &words)?;
         assert_eq!(rt; done.status, status);
         assert_eq!(rt; done.out.taken(), text);
         assert_eq!(rt; done.err.taken(), line);
@@ -151,7 +150,7 @@ fn a_file_that_can_not_be_used_is_told_in_one_line(rt: HostRuntime) -> Result<()
         cases.push((PLATE, Vec::from_slice(alloc, mesh)?, line))?;
     }
     for (printer, mesh, line) in cases {
-        let done = run_in_memory(alloc, printer, "a.stl", mesh, &words, &[], &[])?;
+        let done = run_in_memory(alloc, printer, mesh, &words)?;
         assert_eq!(rt; done.status, 4);
         assert_eq!(rt; done.err.taken(), line);
         assert_eq!(rt; done.out.taken(), b"".as_slice());
@@ -159,20 +158,23 @@ fn a_file_that_can_not_be_used_is_told_in_one_line(rt: HostRuntime) -> Result<()
     Ok(())
 }
 
-// Large files are no want of memory.
+// Large files are no want of memory: a mesh of more than 2 MiB, and a description of 1 MiB, which is its limit.
 #[test]
 fn large_files_are_read_or_too_long(rt: HostRuntime) -> Result<(), Fail> {
     let alloc = rt.alloc();
     let words = ["arrange", "p0.toml", "a.stl"];
-    let many = blocks(alloc, 200, 20, 20, 20)?;
-    let done = run_in_memory(alloc, PLATE, "a.stl", many, &words, &[], &[])?;
+    let mesh = blocks(alloc, 2_000, 20, 20, 20)?;
+    assert!(rt; mesh.len() > 2_097_152);
+    let mut printer = Vec::from_slice(alloc, PLATE)?;
+    printer.resize(1_048_576, b'#')?;
+    let done = run_in_memory(alloc, &printer, mesh, &words)?;
+    assert_eq!(rt; done.err.taken(), b"".as_slice());
     assert_eq!(rt; done.status, 0);
     assert_eq!(rt; done.out.taken(), PLAN);
-    // a description of 1 MiB and a byte
-    let mut long = Vec::new(alloc);
-    long.resize(1_048_577, b'#')?;
+    // one byte more
+    printer.push(b'#')?;
     let cube = block(alloc, 20, 20, 20)?;
-    let done = run_in_memory(alloc, &long, "a.stl", cube, &words, &[], &[])?;
+    let done = run_in_memory(alloc, &printer, cube, &words)?;
     assert_eq!(rt; done.status, 4);
     assert_eq!(rt;
         done.err.taken(),
@@ -256,36 +258,51 @@ static RUNS: [(&[&str], &[u64], u8, &[u8]); 20] = [
 #[test]
 fn words_and_failures_have_their_lines(rt: HostRuntime) -> Result<(), Fail> {
     let alloc = rt.alloc();
-    for (words, failing, status, line) in &RUNS {
+    for (words, reads, status, line) in &RUNS {
         let cube = block(alloc, 20, 20, 20)?;
-        let done = run_in_memory(alloc, PLATE, "a.stl", cube, words, failing, &[])?;
+        let failing = Failing {
+            reads,
+            out: &[],
+            err: &[],
+        };
+        let done = run_with_failures(alloc, PLATE, cube, words, failing)?;
         assert_eq!(rt; done.status, *status);
         assert_eq!(rt; done.err.taken(), *line);
         assert_eq!(rt; done.out.taken(), b"".as_slice());
     }
-    // the second write of ten bytes fails
-    let words = ["arrange", "p0.toml", "a.stl"];
-    let cube = block(alloc, 20, 20, 20)?;
-    let done = run_in_memory(alloc, PLATE, "a.stl", cube, &words, &[], &[1])?;
-    assert_eq!(rt; done.status, 8);
-    assert_eq!(rt; done.out.taken(), b"seqplan 1\n".as_slice());
     Ok(())
 }
 
-// One byte past the limit is read, and no more.
+const ARRANGE: &[&str] = &["arrange", "p0.toml", "a.stl"];
+
+const NO_MESH: &[&str] = &["arrange", "p0.toml"];
+
+// A printer and words, the writes of `err` and of `out` that fail, and what each of the two took.
+static BROKEN: [(&[u8], &[&str], &[u64], &[u64], &[u8], &[u8]); 8] = [
+    (PLATE, NO_MESH, &[0], &[], b"", b""),
+    (PLATE, NO_MESH, &[1], &[], b"words: usa", b""),
+    (b"", ARRANGE, &[0], &[], b"", b""),
+    (b"", ARRANGE, &[2], &[], b"input: p0.toml: miss", b""),
+    // a note, and then a plan
+    (PLATE, ARRANGE, &[0], &[], b"", b""),
+    (PLATE, ARRANGE, &[1], &[], b"note: a.st", b""),
+    (PLATE, ARRANGE, &[], &[0], OPEN, b""),
+    (PLATE, ARRANGE, &[], &[1], OPEN, b"seqplan 1\n"),
+];
+
 #[test]
-fn a_file_over_its_limit_is_left_there(rt: HostRuntime) -> Result<(), Fail> {
+fn a_sink_that_fails_ends_the_run(rt: HostRuntime) -> Result<(), Fail> {
     let alloc = rt.alloc();
-    let mut files = Vec::new(alloc);
-    files.push(MemFile::new(
-        String::from_str(alloc, "cube.stl")?,
-        Vec::from_slice(alloc, b"0123456789")?,
-    ))?;
-    let mut shelf = MemShelf::new(files, 1 << 20, Vec::new(alloc));
-    let name = String::from_str(alloc, "cube.stl")?;
-    assert!(rt; matches!(read_all(alloc, &mut shelf, name, 4), Err(ReadAll::TooLong)));
-    let mut rest = [0; 16];
-    assert!(rt; matches!(shelf.read(&mut rest), Ok(5)));
-    assert_eq!(rt; &rest[..5], b"56789".as_slice());
+    for (printer, words, err, out, told, printed) in &BROKEN {
+        let failing = Failing {
+            reads: &[],
+            out,
+            err,
+        };
+        let done = run_with_failures(alloc, printer, open_cube(alloc)?, words, failing)?;
+        assert_eq!(rt; done.status, 8);
+        assert_eq!(rt; done.err.taken(), *told);
+        assert_eq!(rt; done.out.taken(), *printed);
+    }
     Ok(())
 }

@@ -56,7 +56,7 @@ fn a_description_is_refused_at_its_first_wrong_key(rt: HostRuntime) -> Result<()
     for (lines, line) in &REFUSED {
         let text = format!(in alloc; "{SIZES}{lines}")?;
         let cube = block(alloc, 20, 20, 20)?;
-        let done = run_in_memory(alloc, text.as_bytes(), "a.stl", cube, &words, &[], &[])?;
+        let done = run_in_memory(alloc, text.as_bytes(), cube, &words)?;
         assert_eq!(rt; done.status, 4);
         assert_eq!(rt; done.err.taken(), *line);
         assert_eq!(rt; done.out.taken(), b"".as_slice());
@@ -77,7 +77,7 @@ fn one_mesh_is_arranged_whatever_parts_there_are(rt: HostRuntime) -> Result<(), 
     for lines in &ACCEPTED {
         let text = format!(in alloc; "{SIZES}{lines}")?;
         let cube = block(alloc, 20, 20, 20)?;
-        let done = run_in_memory(alloc, text.as_bytes(), "a.stl", cube, &words, &[], &[])?;
+        let done = run_in_memory(alloc, text.as_bytes(), cube, &words)?;
         assert_eq!(rt; done.err.taken(), b"".as_slice());
         assert_eq!(rt; done.status, 0);
         assert_eq!(rt; done.out.taken(), PLAN);

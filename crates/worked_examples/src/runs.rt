@@ -18,25 +18,46 @@ pub(crate) struct Outcome {
     pub(crate) err: MemSink,
 }
 
-/// A run over a printer `p0.toml` and a mesh of this name in memory.
+/// The numbers of the calls that fail: of the shelf, and of the writes of `out` and of `err`.
+#[derive(Clone, Copy)]
+pub(crate) struct Failing {
+    pub(crate) reads: &'static [u64],
+    pub(crate) out: &'static [u64],
+    pub(crate) err: &'static [u64],
+}
+
+/// A run over a printer `p0.toml` and a mesh `a.stl` in memory, of which no call fails.
 pub(crate) fn run_in_memory(
     alloc: Global,
     printer: &[u8],
-    name: &str,
     mesh: Vec<u8>,
     words: &[&str],
-    failing_reads: &[u64],
-    failing_writes: &[u64],
+) -> Result<Outcome, Fail> {
+    let failing = Failing {
+        reads: &[],
+        out: &[],
+        err: &[],
+    };
+    run_with_failures(alloc, printer, mesh, words, failing)
+}
+
+/// The same, with calls that fail. Both sinks take ten bytes at a call.
+pub(crate) fn run_with_failures(
+    alloc: Global,
+    printer: &[u8],
+    mesh: Vec<u8>,
+    words: &[&str],
+    failing: Failing,
 ) -> Result<Outcome, Fail> {
     let mut files = Vec::new(alloc);
     files.push(MemFile::new(
         String::from_str(alloc, "p0.toml")?,
         Vec::from_slice(alloc, printer)?,
     ))?;
-    files.push(MemFile::new(String::from_str(alloc, name)?, mesh))?;
-    let mut shelf = MemShelf::new(files, 1 << 20, Vec::from_slice(alloc, failing_reads)?);
-    let mut out = MemSink::new(alloc, 4096, 10, Vec::from_slice(alloc, failing_writes)?)?;
-    let mut err = MemSink::new(alloc, 4096, 4096, Vec::new(alloc))?;
+    files.push(MemFile::new(String::from_str(alloc, "a.stl")?, mesh))?;
+    let mut shelf = MemShelf::new(files, 1 << 20, Vec::from_slice(alloc, failing.reads)?);
+    let mut out = MemSink::new(alloc, 4096, 10, Vec::from_slice(alloc, failing.out)?)?;
+    let mut err = MemSink::new(alloc, 4096, 10, Vec::from_slice(alloc, failing.err)?)?;
     let mut own_words = Vec::new(alloc);
     for word in words {
         own_words.push(String::from_str(alloc, word)?)?;

@@ -37,7 +37,7 @@ fn outlines_of_bands_are_joined_to_zones(rt: HostRuntime) -> Result<(), Fail> {
         (WITH_PARTS, wedge(alloc)?, WEDGE),
     ];
     for (printer, mesh, text) in cases {
-        let done = run_in_memory(alloc, printer, "a.stl", mesh, &words, &[], &[])?;
+        let done = run_in_memory(alloc, printer, mesh, &words)?;
         assert_eq!(rt; done.status, 0);
         assert_eq!(rt; done.out.taken(), text);
         assert_eq!(rt; done.err.taken(), b"".as_slice());
