@@ -64,6 +64,13 @@ mod tests {
                 Err(error) => assert!(rt; wanted == Err(error)),
             }
         }
+        // one byte past the limit is read, and no more
+        let mut shelf = MemShelf::new(one_file(alloc, b"0123456789")?, 16, Vec::new(alloc));
+        let name = String::from_str(alloc, "a.stl")?;
+        assert!(rt; matches!(read_all(alloc, &mut shelf, name, 4), Err(ReadAll::TooLong)));
+        let mut rest = [0; 16];
+        assert!(rt; matches!(shelf.read(&mut rest), Ok(5)));
+        assert_eq!(rt; &rest[..5], b"56789".as_slice());
         let mut shelf = SureShelf::new(one_file(alloc, b"")?);
         let empty = read_all(alloc, &mut shelf, String::from_str(alloc, "a.stl")?, 0)?;
         assert_eq!(rt; empty.len(), 0);

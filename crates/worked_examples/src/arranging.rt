@@ -1,6 +1,5 @@
-use crate::meshes::{block, blocks, cube_with_a_dropped_facet, exported_cube, open_cube};
-use crate::runs::{PLAN, PLATE, run_in_memory};
-use seq_io::{MemFile, MemShelf, ReadAll, Shelf, read_all};
+use crate::meshes::{Mesh, file_of};
+use crate::runs::{ARRANGE, Failing, PLAN, PLATE, see, see_with_failures};
 use std::test::Fail;
 
 const SMALL_PLATE: &[u8] =
@@ -9,39 +8,29 @@ const SMALL_PLATE: &[u8] =
 const FLAT_PLATE: &[u8] =
     b"format = 1\ngrain = 1\nplate = [100, 21]\nstep = 10\nmargin = 1\ngrid = 50\n";
 
+const NONE: &[u8] = b"seqplan 1\nstate none\ngrid 100\ncertificate 1\nexcludes 100\nbound 0:1\n";
+
+const FLAT_NONE: &[u8] = b"seqplan 1\nstate none\ngrid 50\ncertificate 1\nexcludes 50\nbound 1:1\n";
+
+// Printers and meshes, and the status and the text.
+static ALONE: [(&[u8], Mesh, u8, &[u8]); 5] = [
+    (PLATE, Mesh::Block(20), 0, PLAN),
+    (PLATE, Mesh::Exported, 0, PLAN),
+    // 200 bands
+    (PLATE, Mesh::Block(2_000), 0, PLAN),
+    (SMALL_PLATE, Mesh::Block(20), 1, NONE),
+    // 22 grains are too deep for 21
+    (FLAT_PLATE, Mesh::Block(20), 1, FLAT_NONE),
+];
+
 #[test]
 fn one_mesh_has_a_plan_or_a_certificate(rt: HostRuntime) -> Result<(), Fail> {
-    let alloc = rt.alloc();
     let words = ["arrange", "--budget=1", "p0.toml", "a.stl"];
-    let cases = [
-        (PLATE, block(alloc, 20, 20, 20)?, 0, PLAN),
-        (PLATE, exported_cube(alloc)?, 0, PLAN),
-        // 200 bands
-        (PLATE, block(alloc, 20, 20, 2_000)?, 0, PLAN),
-        (
-            SMALL_PLATE,
-            block(alloc, 20, 20, 20)?,
-            1,
-            b"seqplan 1\nstate none\ngrid 100\ncertificate 1\nexcludes 100\nbound 0:1\n",
-        ),
-        // 22 grains are too deep for 21
-        (
-            FLAT_PLATE,
-            block(alloc, 20, 20, 20)?,
-            1,
-            b"seqplan 1\nstate none\ngrid 50\ncertificate 1\nexcludes 50\nbound 1:1\n",
-        ),
-    ];
-    for (printer, mesh, status, text) in cases {
-        let done = run_in_memory(alloc, printer, "a.stl", mesh, &words, &[], &[])?;
-        assert_eq!(rt; done.status, status);
-        assert_eq!(rt; done.out.taken(), text);
-        assert_eq!(rt; done.err.taken(), b"".as_slice());
+    for (printer, mesh, status, text) in &ALONE {
+        see(&rt, rt.alloc(), printer, mesh, &words, (*status, text, b""))?;
     }
     Ok(())
 }
-
-const NONE: &[u8] = b"seqplan 1\nstate none\ngrid 100\ncertificate 1\nexcludes 100\nbound 0:1\n";
 
 // A facet of 1.5 mm, 20 mm and 20 mm, that is seen from outside and from inside.
 const OUTWARD: &[u8] =
@@ -54,132 +43,120 @@ const OPEN: &[u8] = b"note: a.stl: open edges 3, six volume 48000000000000, drop
 
 const DROPPED: &[u8] = b"note: a.stl: open edges 0, six volume 48000000000000, dropped 1\n";
 
+const OUTWARD_OPEN: &[u8] = b"note: a.stl: open edges 3, six volume 600000000000, dropped 0\n";
+
+// Printers and meshes, the status, the text and the note.
+static NOTED: [(&[u8], Mesh, u8, &[u8], &[u8]); 4] = [
+    (PLATE, Mesh::Open, 0, PLAN, OPEN),
+    (SMALL_PLATE, Mesh::Open, 1, NONE, OPEN),
+    (PLATE, Mesh::Dropped, 0, PLAN, DROPPED),
+    (PLATE, Mesh::Text(OUTWARD), 0, PLAN, OUTWARD_OPEN),
+];
+
 #[test]
 fn a_mesh_that_is_open_inverted_or_cleaned_is_noted(rt: HostRuntime) -> Result<(), Fail> {
-    let alloc = rt.alloc();
-    let words = ["arrange", "p0.toml", "a.stl"];
-    let cases = [
-        (PLATE, open_cube(alloc)?, 0, PLAN, OPEN),
-        (SMALL_PLATE, open_cube(alloc)?, 1, NONE, OPEN),
-        (PLATE, cube_with_a_dropped_facet(alloc)?, 0, PLAN, DROPPED),
-        (
-            PLATE,
-            Vec::from_slice(alloc, OUTWARD)?,
-            0,
-            PLAN,
-            b"note: a.stl: open edges 3, six volume 600000000000, dropped 0\n",
-        ),
-    ];
-    for (printer, mesh, status, text, line) in cases {
-        let done = run_in_memory(alloc, printer, "a.stl", mesh, &words, &[], &[])?;
-        assert_eq!(rt; done.status, status);
-        assert_eq!(rt; done.out.taken(), text);
-        assert_eq!(rt; done.err.taken(), line);
+    for (printer, mesh, status, text, line) in &NOTED {
+        see(
+            &rt,
+            rt.alloc(),
+            printer,
+            mesh,
+            ARRANGE,
+            (*status, text, line),
+        )?;
     }
     Ok(())
 }
+
+// Meshes, the status of a strict run, the text and the line on `err`.
+static STRICT: [(Mesh, u8, &[u8], &[u8]); 4] = [
+    (Mesh::Block(20), 0, PLAN, b""),
+    (Mesh::Dropped, 0, PLAN, DROPPED),
+    (
+        Mesh::Open,
+        4,
+        b"",
+        b"input: a.stl: not a closed outward mesh: open edges 3, six volume 48000000000000\n",
+    ),
+    (
+        Mesh::Text(INWARD),
+        4,
+        b"",
+        b"input: a.stl: not a closed outward mesh: open edges 3, six volume -600000000000\n",
+    ),
+];
 
 #[test]
 fn a_strict_run_refuses_what_is_open_or_inverted(rt: HostRuntime) -> Result<(), Fail> {
-    let alloc = rt.alloc();
     let words = ["arrange", "p0.toml", "--strict", "a.stl"];
-    let cases = [
-        (block(alloc, 20, 20, 20)?, 0, PLAN, b"".as_slice()),
-        (cube_with_a_dropped_facet(alloc)?, 0, PLAN, DROPPED),
-        (
-            open_cube(alloc)?,
-            4,
-            b"",
-            b"input: a.stl: not a closed outward mesh: open edges 3, six volume 48000000000000\n",
-        ),
-        (
-            Vec::from_slice(alloc, INWARD)?,
-            4,
-            b"",
-            b"input: a.stl: not a closed outward mesh: open edges 3, six volume -600000000000\n",
-        ),
-    ];
-    for (mesh, status, text, line) in cases {
-        let done = run_in_memory(alloc, PLATE, "a.stl", mesh, &words, &[], &[])?;
-        assert_eq!(rt; done.status, status);
-        assert_eq!(rt; done.out.taken(), text);
-        assert_eq!(rt; done.err.taken(), line);
+    for (mesh, status, text, line) in &STRICT {
+        see(&rt, rt.alloc(), PLATE, mesh, &words, (*status, text, line))?;
     }
     Ok(())
 }
 
-// Meshes as text, and what the line on `err` says of them.
-static MESHES: [(&[u8], &[u8]); 6] = [
-    (b"solid\nendsolid\n", b"input: a.stl: no facet\n"),
+// Meshes, and the line on `err`.
+static UNUSABLE: [(Mesh, &[u8]); 8] = [
+    (Mesh::Binary, b"input: a.stl: binary STL\n"),
+    // a height of 2,010 mm in bands of 10 mm
     (
-        b"solid s facet\nfacet normal 0 0 0 outer loop vertex 0 0 0 vertex 0 0 0 vertex 1 1 1 endloop endfacet\nendsolid",
+        Mesh::Block(2_010),
+        b"input: a.stl: more than 200 bands: 201\n",
+    ),
+    (
+        Mesh::Text(b"solid\nendsolid\n"),
+        b"input: a.stl: no facet\n",
+    ),
+    (
+        Mesh::Text(
+            b"solid s facet\nfacet normal 0 0 0 outer loop vertex 0 0 0 vertex 0 0 0 vertex 1 1 1 endloop endfacet\nendsolid",
+        ),
         b"input: a.stl: no facet is left\n",
     ),
     // cut within the third vertex, at byte 74
     (
-        b"solid c\nfacet normal 0 0 1\nouter loop\nvertex 0 0 0\nvertex 1 0 0\nvertex 1 1",
+        Mesh::Text(
+            b"solid c\nfacet normal 0 0 1\nouter loop\nvertex 0 0 0\nvertex 1 0 0\nvertex 1 1",
+        ),
         b"input: a.stl: number at 74: empty\n",
     ),
     (
-        b"solid c\nfacet normal 0 0 1\nouter loop\nvertex 0 0 1,5\n",
+        Mesh::Text(b"solid c\nfacet normal 0 0 1\nouter loop\nvertex 0 0 1,5\n"),
         b"input: a.stl: number at 49: bad byte at 1\n",
     ),
     (
-        b"solid c\nfacet 0 0 1\n",
+        Mesh::Text(b"solid c\nfacet 0 0 1\n"),
         b"input: a.stl: expected normal at 14\n",
     ),
     (
-        b"solid c\nvertex",
+        Mesh::Text(b"solid c\nvertex"),
         b"input: a.stl: expected facet or endsolid at 8\n",
     ),
 ];
 
 #[test]
 fn a_file_that_can_not_be_used_is_told_in_one_line(rt: HostRuntime) -> Result<(), Fail> {
-    let alloc = rt.alloc();
-    let words = ["arrange", "p0.toml", "a.stl"];
-    // 84 + 50 * 12 bytes, with the number 12 at byte 80
-    let mut binary = Vec::from_slice(alloc, b"solid")?;
-    binary.resize(684, 0)?;
-    binary[80] = 12;
-    let mut cases = vec![in alloc;
-        (PLATE, binary, b"input: a.stl: binary STL\n".as_slice()),
-        // a height of 2,010 mm in bands of 10 mm
-        (PLATE, block(alloc, 20, 20, 2_010)?, b"input: a.stl: more than 200 bands: 201\n"),
-    ]?;
-    for (mesh, line) in &MESHES {
-        cases.push((PLATE, Vec::from_slice(alloc, mesh)?, line))?;
-    }
-    for (printer, mesh, line) in cases {
-        let done = run_in_memory(alloc, printer, "a.stl", mesh, &words, &[], &[])?;
-        assert_eq!(rt; done.status, 4);
-        assert_eq!(rt; done.err.taken(), line);
-        assert_eq!(rt; done.out.taken(), b"".as_slice());
+    for (mesh, line) in &UNUSABLE {
+        see(&rt, rt.alloc(), PLATE, mesh, ARRANGE, (4, b"", line))?;
     }
     Ok(())
 }
 
-// Large files are no want of memory.
+// Large files are no want of memory: a mesh of more than 2 MiB, and a description of 1 MiB, which is its limit.
 #[test]
 fn large_files_are_read_or_too_long(rt: HostRuntime) -> Result<(), Fail> {
-    let alloc = rt.alloc();
-    let words = ["arrange", "p0.toml", "a.stl"];
-    let many = blocks(alloc, 200, 20, 20, 20)?;
-    let done = run_in_memory(alloc, PLATE, "a.stl", many, &words, &[], &[])?;
-    assert_eq!(rt; done.status, 0);
-    assert_eq!(rt; done.out.taken(), PLAN);
-    // a description of 1 MiB and a byte
-    let mut long = Vec::new(alloc);
-    long.resize(1_048_577, b'#')?;
-    let cube = block(alloc, 20, 20, 20)?;
-    let done = run_in_memory(alloc, &long, "a.stl", cube, &words, &[], &[])?;
-    assert_eq!(rt; done.status, 4);
-    assert_eq!(rt;
-        done.err.taken(),
-        b"input: p0.toml: longer than 1048576 bytes\n".as_slice()
-    );
-    Ok(())
+    let mut printer = Vec::from_slice(rt.alloc(), PLATE)?;
+    printer.resize(1_048_576, b'#')?;
+    let large = Mesh::Cubes(2_000);
+    assert!(rt; file_of(rt.alloc(), &large)?.len() > 2_097_152);
+    see(&rt, rt.alloc(), &printer, &large, ARRANGE, (0, PLAN, b""))?;
+    // one byte more
+    printer.push(b'#')?;
+    let line = b"input: p0.toml: longer than 1048576 bytes\n";
+    see(&rt, rt.alloc(), &printer, &large, ARRANGE, (4, b"", line))
 }
+
+const NO_MESH: &[&str] = &["arrange", "p0.toml"];
 
 // Words, calls of the shelf that fail, the status and the line on `err`.
 static RUNS: [(&[&str], &[u64], u8, &[u8]); 20] = [
@@ -190,7 +167,7 @@ static RUNS: [(&[&str], &[u64], u8, &[u8]); 20] = [
         2,
         b"words: unknown command\n",
     ),
-    (&["arrange", "p0.toml"], &[], 2, b"words: usage\n"),
+    (NO_MESH, &[], 2, b"words: usage\n"),
     (
         &["arrange", "--help", "p0.toml", "a.stl"],
         &[],
@@ -238,54 +215,56 @@ static RUNS: [(&[&str], &[u64], u8, &[u8]); 20] = [
     (&["arrange", "p", "q", "q"], &[], 2, b"words: not yet\n"),
     (&["arrange", "p1.toml", "a.stl"], &[], 3, b"read: p1.toml\n"),
     (&["arrange", "p0.toml", "-"], &[], 3, b"read: -\n"),
-    (
-        &["arrange", "p0.toml", "a.stl"],
-        &[0],
-        3,
-        b"read: p0.toml\n",
-    ),
-    (
-        &["arrange", "p0.toml", "a.stl"],
-        &[2],
-        3,
-        b"read: p0.toml\n",
-    ),
-    (&["arrange", "p0.toml", "a.stl"], &[3], 3, b"read: a.stl\n"),
+    (ARRANGE, &[0], 3, b"read: p0.toml\n"),
+    (ARRANGE, &[2], 3, b"read: p0.toml\n"),
+    (ARRANGE, &[3], 3, b"read: a.stl\n"),
 ];
 
 #[test]
 fn words_and_failures_have_their_lines(rt: HostRuntime) -> Result<(), Fail> {
-    let alloc = rt.alloc();
-    for (words, failing, status, line) in &RUNS {
-        let cube = block(alloc, 20, 20, 20)?;
-        let done = run_in_memory(alloc, PLATE, "a.stl", cube, words, failing, &[])?;
-        assert_eq!(rt; done.status, *status);
-        assert_eq!(rt; done.err.taken(), *line);
-        assert_eq!(rt; done.out.taken(), b"".as_slice());
+    for (words, reads, status, line) in &RUNS {
+        let failing = Failing {
+            reads,
+            out: &[],
+            err: &[],
+        };
+        let seen = (*status, b"".as_slice(), *line);
+        see_with_failures(
+            &rt,
+            rt.alloc(),
+            PLATE,
+            &Mesh::Block(20),
+            words,
+            failing,
+            seen,
+        )?;
     }
-    // the second write of ten bytes fails
-    let words = ["arrange", "p0.toml", "a.stl"];
-    let cube = block(alloc, 20, 20, 20)?;
-    let done = run_in_memory(alloc, PLATE, "a.stl", cube, &words, &[], &[1])?;
-    assert_eq!(rt; done.status, 8);
-    assert_eq!(rt; done.out.taken(), b"seqplan 1\n".as_slice());
     Ok(())
 }
 
-// One byte past the limit is read, and no more.
+// A printer and words, the writes of `err` and of `out` that fail, and what each of the two took.
+static BROKEN: [(&[u8], &[&str], &[u64], &[u64], &[u8], &[u8]); 8] = [
+    (PLATE, NO_MESH, &[0], &[], b"", b""),
+    (PLATE, NO_MESH, &[1], &[], b"words: usa", b""),
+    (b"", ARRANGE, &[0], &[], b"", b""),
+    (b"", ARRANGE, &[2], &[], b"input: p0.toml: miss", b""),
+    // a note, and then a plan
+    (PLATE, ARRANGE, &[0], &[], b"", b""),
+    (PLATE, ARRANGE, &[1], &[], b"note: a.st", b""),
+    (PLATE, ARRANGE, &[], &[0], OPEN, b""),
+    (PLATE, ARRANGE, &[], &[1], OPEN, b"seqplan 1\n"),
+];
+
 #[test]
-fn a_file_over_its_limit_is_left_there(rt: HostRuntime) -> Result<(), Fail> {
-    let alloc = rt.alloc();
-    let mut files = Vec::new(alloc);
-    files.push(MemFile::new(
-        String::from_str(alloc, "cube.stl")?,
-        Vec::from_slice(alloc, b"0123456789")?,
-    ))?;
-    let mut shelf = MemShelf::new(files, 1 << 20, Vec::new(alloc));
-    let name = String::from_str(alloc, "cube.stl")?;
-    assert!(rt; matches!(read_all(alloc, &mut shelf, name, 4), Err(ReadAll::TooLong)));
-    let mut rest = [0; 16];
-    assert!(rt; matches!(shelf.read(&mut rest), Ok(5)));
-    assert_eq!(rt; &rest[..5], b"56789".as_slice());
+fn a_sink_that_fails_ends_the_run(rt: HostRuntime) -> Result<(), Fail> {
+    for (printer, words, err, out, told, printed) in &BROKEN {
+        let failing = Failing {
+            reads: &[],
+            out,
+            err,
+        };
+        let seen = (8, *printed, *told);
+        see_with_failures(&rt, rt.alloc(), printer, &Mesh::Open, words, failing, seen)?;
+    }
     Ok(())
 }

@@ -1,5 +1,5 @@
-use crate::meshes::block;
-use crate::runs::{PLAN, run_in_memory};
+use crate::meshes::Mesh;
+use crate::runs::{ARRANGE, PLAN, see};
 use std::test::Fail;
 
 const SIZES: &str = "format = 1\ngrain = 1\nplate = [100, 100]\nmargin = 1\ngrid = 100\n";
@@ -51,15 +51,16 @@ static REFUSED: [(&str, &[u8]); 14] = [
 
 #[test]
 fn a_description_is_refused_at_its_first_wrong_key(rt: HostRuntime) -> Result<(), Fail> {
-    let alloc = rt.alloc();
-    let words = ["arrange", "p0.toml", "a.stl"];
     for (lines, line) in &REFUSED {
-        let text = format!(in alloc; "{SIZES}{lines}")?;
-        let cube = block(alloc, 20, 20, 20)?;
-        let done = run_in_memory(alloc, text.as_bytes(), "a.stl", cube, &words, &[], &[])?;
-        assert_eq!(rt; done.status, 4);
-        assert_eq!(rt; done.err.taken(), *line);
-        assert_eq!(rt; done.out.taken(), b"".as_slice());
+        let text = format!(in rt.alloc(); "{SIZES}{lines}")?;
+        see(
+            &rt,
+            rt.alloc(),
+            text.as_bytes(),
+            &Mesh::Block(20),
+            ARRANGE,
+            (4, b"", line),
+        )?;
     }
     Ok(())
 }
@@ -72,15 +73,16 @@ static ACCEPTED: [&str; 2] = [
 
 #[test]
 fn one_mesh_is_arranged_whatever_parts_there_are(rt: HostRuntime) -> Result<(), Fail> {
-    let alloc = rt.alloc();
-    let words = ["arrange", "p0.toml", "a.stl"];
     for lines in &ACCEPTED {
-        let text = format!(in alloc; "{SIZES}{lines}")?;
-        let cube = block(alloc, 20, 20, 20)?;
-        let done = run_in_memory(alloc, text.as_bytes(), "a.stl", cube, &words, &[], &[])?;
-        assert_eq!(rt; done.err.taken(), b"".as_slice());
-        assert_eq!(rt; done.status, 0);
-        assert_eq!(rt; done.out.taken(), PLAN);
+        let text = format!(in rt.alloc(); "{SIZES}{lines}")?;
+        see(
+            &rt,
+            rt.alloc(),
+            text.as_bytes(),
+            &Mesh::Block(20),
+            ARRANGE,
+            (0, PLAN, b""),
+        )?;
     }
     Ok(())
 }

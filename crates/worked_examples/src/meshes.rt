@@ -1,17 +1,75 @@
 use std::alloc::Global;
 use std::test::Fail;
 
+// z is 0 at the bottom and 1 at the top.
 type Point = (i64, i64, i64);
 
-/// How the lines of a mesh are spelt.
+/// A mesh, by what it is. Each but a text stands on the origin, on a square of 20 mm or a half of it.
+#[derive(Clone, Copy)]
+pub(crate) enum Mesh {
+    /// A file as it is.
+    Text(&'static [u8]),
+    /// The head of a binary file, and room for its 12 facets.
+    Binary,
+    /// A block of this height, in millimetres.
+    Block(i64),
+    /// So many cubes in one place, of 12 facets each.
+    Cubes(u32),
+    /// A cube, as an exporter writes it.
+    Exported,
+    /// A cube without its last facet.
+    Open,
+    /// A cube, and a facet of which two corners are equal.
+    Dropped,
+    Pyramid,
+    Wedge,
+}
+
+// How the lines of a mesh are spelt.
 #[derive(Clone, Copy, PartialEq, Eq)]
-pub(crate) enum Style {
-    /// Lower case, whole numbers and line feeds.
+enum Style {
+    // Lower case, whole numbers and line feeds.
     Plain,
-    /// As an exporter writes it: capitals, exponents, CR and LF, no name, and normals that are no numbers. For
-    /// coordinates of 0 and 20 alone.
+    // Capitals, exponents, CR and LF, no name, and normals that are no numbers. For coordinates of 0 and 20 alone.
     Exported,
 }
+
+static CUBE: [[Point; 3]; 12] = [
+    [(0, 0, 0), (0, 20, 0), (20, 20, 0)],
+    [(0, 0, 0), (20, 20, 0), (20, 0, 0)],
+    [(0, 0, 1), (20, 0, 1), (20, 20, 1)],
+    [(0, 0, 1), (20, 20, 1), (0, 20, 1)],
+    [(0, 0, 0), (20, 0, 0), (20, 0, 1)],
+    [(0, 0, 0), (20, 0, 1), (0, 0, 1)],
+    [(20, 0, 0), (20, 20, 0), (20, 20, 1)],
+    [(20, 0, 0), (20, 20, 1), (20, 0, 1)],
+    [(20, 20, 0), (0, 20, 0), (0, 20, 1)],
+    [(20, 20, 0), (0, 20, 1), (20, 20, 1)],
+    [(0, 20, 0), (0, 0, 0), (0, 0, 1)],
+    [(0, 20, 0), (0, 0, 1), (0, 20, 1)],
+];
+
+static PYRAMID: [[Point; 3]; 6] = [
+    [(0, 0, 0), (20, 20, 0), (20, 0, 0)],
+    [(0, 0, 0), (0, 20, 0), (20, 20, 0)],
+    [(0, 0, 0), (20, 0, 0), (10, 10, 1)],
+    [(20, 0, 0), (20, 20, 0), (10, 10, 1)],
+    [(20, 20, 0), (0, 20, 0), (10, 10, 1)],
+    [(0, 20, 0), (0, 0, 0), (10, 10, 1)],
+];
+
+static WEDGE: [[Point; 3]; 8] = [
+    [(0, 0, 0), (0, 20, 0), (20, 0, 0)],
+    [(0, 0, 1), (20, 0, 1), (0, 20, 1)],
+    [(0, 0, 0), (20, 0, 0), (20, 0, 1)],
+    [(0, 0, 0), (20, 0, 1), (0, 0, 1)],
+    [(20, 0, 0), (0, 20, 0), (0, 20, 1)],
+    [(20, 0, 0), (0, 20, 1), (20, 0, 1)],
+    [(0, 20, 0), (0, 0, 0), (0, 0, 1)],
+    [(0, 20, 0), (0, 0, 1), (0, 20, 1)],
+];
+
+static NEEDLE: [[Point; 3]; 1] = [[(0, 0, 0), (0, 0, 0), (1, 1, 1)]];
 
 fn length(alloc: Global, style: Style, n: i64) -> Result<String, Fail> {
     match style {
@@ -21,143 +79,98 @@ fn length(alloc: Global, style: Style, n: i64) -> Result<String, Fail> {
     }
 }
 
-fn facet(alloc: Global, text: &mut Vec<u8>, style: Style, corners: [Point; 3]) -> Result<(), Fail> {
-    let (opening, vertex, end, closing) = match style {
+fn vertex(alloc: Global, text: &mut Vec<u8>, style: Style, corner: [i64; 3]) -> Result<(), Fail> {
+    let (opening, end) = match style {
+        Style::Plain => (b"vertex".as_slice(), b"\n".as_slice()),
+        Style::Exported => (b"   VERTEX".as_slice(), b"\r\n".as_slice()),
+    };
+    text.extend_from_slice(opening)?;
+    for n in corner {
+        text.extend_from_slice(b" ")?;
+        text.extend_from_slice(length(alloc, style, n)?.as_bytes())?;
+    }
+    text.extend_from_slice(end)?;
+    Ok(())
+}
+
+fn facet(
+    alloc: Global,
+    text: &mut Vec<u8>,
+    style: Style,
+    corners: &[Point; 3],
+    height: i64,
+) -> Result<(), Fail> {
+    let (opening, closing) = match style {
         Style::Plain => (
             b"facet normal 0 0 0\nouter loop\n".as_slice(),
-            b"vertex".as_slice(),
-            b"\n".as_slice(),
             b"endloop\nendfacet\n".as_slice(),
         ),
         Style::Exported => (
             b" FACET NORMAL nan nan nan\r\n  OUTER LOOP\r\n".as_slice(),
-            b"   VERTEX".as_slice(),
-            b"\r\n".as_slice(),
             b"  ENDLOOP\r\n ENDFACET\r\n".as_slice(),
         ),
     };
     text.extend_from_slice(opening)?;
     for (x, y, z) in corners {
-        text.extend_from_slice(vertex)?;
-        for n in [x, y, z] {
-            text.extend_from_slice(b" ")?;
-            text.extend_from_slice(length(alloc, style, n)?.as_bytes())?;
-        }
-        text.extend_from_slice(end)?;
+        let z = if *z == 0 { 0 } else { height };
+        vertex(alloc, text, style, [*x, *y, z])?;
     }
     text.extend_from_slice(closing)?;
     Ok(())
 }
 
-// Two facets for each of the six sides of a block from the origin to (x, y, z); of the last side the second one only
-// where the block is closed.
-fn sides(
+// Adds a solid of these facets, so many times.
+fn solid(
     alloc: Global,
     text: &mut Vec<u8>,
     style: Style,
-    closed: bool,
-    x: i64,
-    y: i64,
-    z: i64,
+    facets: &[[Point; 3]],
+    count: u32,
+    height: i64,
 ) -> Result<(), Fail> {
-    let sides = [
-        [(0, 0, 0), (0, y, 0), (x, y, 0), (x, 0, 0)],
-        [(0, 0, z), (x, 0, z), (x, y, z), (0, y, z)],
-        [(0, 0, 0), (x, 0, 0), (x, 0, z), (0, 0, z)],
-        [(x, 0, 0), (x, y, 0), (x, y, z), (x, 0, z)],
-        [(x, y, 0), (0, y, 0), (0, y, z), (x, y, z)],
-    ];
-    for [a, b, c, d] in sides {
-        facet(alloc, text, style, [a, b, c])?;
-        facet(alloc, text, style, [a, c, d])?;
+    let (opening, closing) = match style {
+        Style::Plain => (b"solid s\n".as_slice(), b"endsolid s\n".as_slice()),
+        Style::Exported => (b"SOLID\r\n".as_slice(), b"ENDSOLID\r\n".as_slice()),
+    };
+    text.extend_from_slice(opening)?;
+    for _ in 0..count {
+        for corners in facets {
+            facet(alloc, text, style, corners, height)?;
+        }
     }
-    facet(alloc, text, style, [(0, y, 0), (0, 0, 0), (0, 0, z)])?;
-    if closed {
-        facet(alloc, text, style, [(0, y, 0), (0, 0, z), (0, y, z)])?;
-    }
+    text.extend_from_slice(closing)?;
     Ok(())
 }
 
-/// The plain text of so many blocks in one place, from the origin to (x, y, z), in millimetres: 12 facets each.
-pub(crate) fn blocks(alloc: Global, count: u32, x: i64, y: i64, z: i64) -> Result<Vec<u8>, Fail> {
-    let mut text = Vec::from_slice(alloc, b"solid block\n")?;
-    for _ in 0..count {
-        sides(alloc, &mut text, Style::Plain, true, x, y, z)?;
+// 84 + 50 * 12 bytes, with the number 12 at byte 80.
+fn binary(text: &mut Vec<u8>) -> Result<(), Fail> {
+    text.extend_from_slice(b"solid")?;
+    text.resize(80, 0)?;
+    text.push(12)?;
+    text.resize(684, 0)?;
+    Ok(())
+}
+
+fn put(alloc: Global, text: &mut Vec<u8>, mesh: &Mesh) -> Result<(), Fail> {
+    match mesh {
+        Mesh::Text(file) => Ok(text.extend_from_slice(file)?),
+        Mesh::Binary => binary(text),
+        Mesh::Block(height) => solid(alloc, text, Style::Plain, &CUBE, 1, *height),
+        Mesh::Cubes(count) => solid(alloc, text, Style::Plain, &CUBE, *count, 20),
+        Mesh::Exported => solid(alloc, text, Style::Exported, &CUBE, 1, 20),
+        Mesh::Open => solid(alloc, text, Style::Plain, &CUBE[..11], 1, 20),
+        Mesh::Dropped => {
+            solid(alloc, text, Style::Plain, &CUBE, 1, 20)?;
+            solid(alloc, text, Style::Plain, &NEEDLE, 1, 1)
+        }
+        Mesh::Pyramid => solid(alloc, text, Style::Plain, &PYRAMID, 1, 20),
+        Mesh::Wedge => solid(alloc, text, Style::Plain, &WEDGE, 1, 20),
     }
-    text.extend_from_slice(b"endsolid block\n")?;
-    Ok(text)
 }
 
-/// One block.
-pub(crate) fn block(alloc: Global, x: i64, y: i64, z: i64) -> Result<Vec<u8>, Fail> {
-    blocks(alloc, 1, x, y, z)
-}
-
-/// A cube of 20 mm, as an exporter writes it.
-pub(crate) fn exported_cube(alloc: Global) -> Result<Vec<u8>, Fail> {
-    let mut text = Vec::from_slice(alloc, b"SOLID\r\n")?;
-    sides(alloc, &mut text, Style::Exported, true, 20, 20, 20)?;
-    text.extend_from_slice(b"ENDSOLID\r\n")?;
-    Ok(text)
-}
-
-/// A cube of 20 mm without its last facet.
-pub(crate) fn open_cube(alloc: Global) -> Result<Vec<u8>, Fail> {
-    let mut text = Vec::from_slice(alloc, b"solid open\n")?;
-    sides(alloc, &mut text, Style::Plain, false, 20, 20, 20)?;
-    text.extend_from_slice(b"endsolid open\n")?;
-    Ok(text)
-}
-
-/// A cube of 20 mm with one facet more, of which two corners are equal.
-pub(crate) fn cube_with_a_dropped_facet(alloc: Global) -> Result<Vec<u8>, Fail> {
-    let mut text = block(alloc, 20, 20, 20)?;
-    text.extend_from_slice(b"solid more\n")?;
-    facet(
-        alloc,
-        &mut text,
-        Style::Plain,
-        [(0, 0, 0), (0, 0, 0), (1, 1, 1)],
-    )?;
-    text.extend_from_slice(b"endsolid more\n")?;
-    Ok(text)
-}
-
-/// A pyramid over a square of 20 mm, 20 mm high.
-pub(crate) fn pyramid(alloc: Global) -> Result<Vec<u8>, Fail> {
-    let top = (10, 10, 20);
-    let facets = [
-        [(0, 0, 0), (20, 20, 0), (20, 0, 0)],
-        [(0, 0, 0), (0, 20, 0), (20, 20, 0)],
-        [(0, 0, 0), (20, 0, 0), top],
-        [(20, 0, 0), (20, 20, 0), top],
-        [(20, 20, 0), (0, 20, 0), top],
-        [(0, 20, 0), (0, 0, 0), top],
-    ];
-    solid(alloc, &facets)
-}
-
-/// A prism over a triangle with two sides of 20 mm, 20 mm high.
-pub(crate) fn wedge(alloc: Global) -> Result<Vec<u8>, Fail> {
-    let facets = [
-        [(0, 0, 0), (0, 20, 0), (20, 0, 0)],
-        [(0, 0, 20), (20, 0, 20), (0, 20, 20)],
-        [(0, 0, 0), (20, 0, 0), (20, 0, 20)],
-        [(0, 0, 0), (20, 0, 20), (0, 0, 20)],
-        [(20, 0, 0), (0, 20, 0), (0, 20, 20)],
-        [(20, 0, 0), (0, 20, 20), (20, 0, 20)],
-        [(0, 20, 0), (0, 0, 0), (0, 0, 20)],
-        [(0, 20, 0), (0, 0, 20), (0, 20, 20)],
-    ];
-    solid(alloc, &facets)
-}
-
-// The plain text of these facets.
-fn solid(alloc: Global, facets: &[[Point; 3]]) -> Result<Vec<u8>, Fail> {
-    let mut text = Vec::from_slice(alloc, b"solid s\n")?;
-    for corners in facets {
-        facet(alloc, &mut text, Style::Plain, *corners)?;
-    }
-    text.extend_from_slice(b"endsolid s\n")?;
+/// The file of a mesh.
+pub(crate) fn file_of(alloc: Global, mesh: &Mesh) -> Result<Vec<u8>, Fail> {
+    let mut text = Vec::new(alloc);
+    put(alloc, &mut text, mesh)?;
     Ok(text)
 }

@@ -1,5 +1,5 @@
-use crate::meshes::{block, exported_cube, open_cube, pyramid, wedge};
-use crate::runs::{PLATE, run_in_memory};
+use crate::meshes::Mesh;
+use crate::runs::{PLATE, see};
 use std::test::Fail;
 
 // A nozzle and a gantry.
@@ -19,28 +19,26 @@ const PYRAMID: &[u8] =
 const WEDGE: &[u8] =
     b"slices 1\nheight 20\nbands 2\nzone 0 1 5\ncorner -1 -1\ncorner 21 -1\ncorner 21 1\ncorner 1 21\ncorner -1 21\n";
 
+// Printers and meshes, and the text of their bands.
+static SLICED: [(&[u8], Mesh, &[u8]); 10] = [
+    (PLATE, Mesh::Block(20), CUBE),
+    (PLATE, Mesh::Exported, CUBE),
+    // an open mesh is sliced as it is, and not noted
+    (PLATE, Mesh::Open, CUBE),
+    (PLATE, Mesh::Block(30), TALL),
+    (PLATE, Mesh::Pyramid, PYRAMID),
+    (PLATE, Mesh::Wedge, WEDGE),
+    (WITH_PARTS, Mesh::Block(20), CUBE),
+    (WITH_PARTS, Mesh::Block(30), TALL),
+    (WITH_PARTS, Mesh::Pyramid, PYRAMID),
+    (WITH_PARTS, Mesh::Wedge, WEDGE),
+];
+
 #[test]
 fn outlines_of_bands_are_joined_to_zones(rt: HostRuntime) -> Result<(), Fail> {
-    let alloc = rt.alloc();
     let words = ["slices", "p0.toml", "a.stl"];
-    let cases = [
-        (PLATE, block(alloc, 20, 20, 20)?, CUBE),
-        (PLATE, exported_cube(alloc)?, CUBE),
-        // an open mesh is sliced as it is, and not noted
-        (PLATE, open_cube(alloc)?, CUBE),
-        (PLATE, block(alloc, 20, 20, 30)?, TALL),
-        (PLATE, pyramid(alloc)?, PYRAMID),
-        (PLATE, wedge(alloc)?, WEDGE),
-        (WITH_PARTS, block(alloc, 20, 20, 20)?, CUBE),
-        (WITH_PARTS, block(alloc, 20, 20, 30)?, TALL),
-        (WITH_PARTS, pyramid(alloc)?, PYRAMID),
-        (WITH_PARTS, wedge(alloc)?, WEDGE),
-    ];
-    for (printer, mesh, text) in cases {
-        let done = run_in_memory(alloc, printer, "a.stl", mesh, &words, &[], &[])?;
-        assert_eq!(rt; done.status, 0);
-        assert_eq!(rt; done.out.taken(), text);
-        assert_eq!(rt; done.err.taken(), b"".as_slice());
+    for (printer, mesh, text) in &SLICED {
+        see(&rt, rt.alloc(), printer, mesh, &words, (0, text, b""))?;
     }
     Ok(())
 }
