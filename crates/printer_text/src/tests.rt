@@ -688,28 +688,33 @@ fn printers_are_read(rt: HostRuntime) -> Result<(), Fail> {
     Ok(())
 }
 
-// As many parts as there may be, with the longest names, of each byte that a name may have.
+// As many parts as there may be, all of this name.
+fn with_twelve_parts(alloc: Global, name: &str) -> Result<String, AllocError> {
+    let mut text = String::from_str(alloc, TOP)?;
+    for _ in 0..12 {
+        text.push_str("[[part]]\nname = \"")?;
+        text.push_str(name)?;
+        text.push_str("\"\nfrom = 0\ncorners = [[0, 0]]\n")?;
+    }
+    Ok(text)
+}
+
+// Names of 40 bytes, which together have each byte that a name may have.
+static LONGEST: [&str; 2] = [
+    "abcdefghijklmnopqrstuvwxyz_0123456789-AZ",
+    "ABCDEFGHIJKLMNOPQRSTUVWXYZ-9876543210_az",
+];
+
 #[test]
 fn twelve_parts_with_names_of_forty_bytes_are_read(rt: HostRuntime) -> Result<(), Fail> {
     let alloc = rt.alloc();
-    let names = [
-        "abcdefghijklmnopqrstuvwxyz_0123456789-AZ",
-        "ABCDEFGHIJKLMNOPQRSTUVWXYZ-9876543210_az",
-    ];
-    for name in names {
-        let mut text = String::from_str(alloc, TOP)?;
-        for _ in 0..12 {
-            let part = format!(in alloc;
-                "[[part]]\nname = \"{name}\"\nfrom = 0\ncorners = [[0, 0]]\n"
-            )?;
-            text.push_str(&part)?;
-        }
-        let Ok(p) = read_printer(alloc, text.as_bytes()) else {
+    for name in &LONGEST {
+        let Ok(p) = read_printer(alloc, with_twelve_parts(alloc, name)?.as_bytes()) else {
             return Err("twelve parts".into());
         };
         assert_eq!(rt; p.parts.len(), 13);
         for part in &p.parts.as_slice()[1..] {
-            assert_eq!(rt; part.name.as_str(), name);
+            assert_eq!(rt; part.name.as_str(), *name);
         }
     }
     Ok(())
