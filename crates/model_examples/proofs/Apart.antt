@@ -14,7 +14,7 @@ abbrev pub EachOf : (Spot → Type 0) → List Spot → Type 0
 EachOf P [] = Unit {0}
 EachOf P (s ∷ S) = P s × EachOf P S
 
-member : (P : Spot → Type 0) (S : List Spot) → EachOf P S → (s : Spot) → In s S → P s
+pub member : (P : Spot → Type 0) (S : List Spot) → EachOf P S → (s : Spot) → In s S → P s
 member P [] e s i = absurd i
 member P (t ∷ S) e s (inl same) = subst P (sym same) e.0
 member P (t ∷ S) e s (inr i) = member P S e.1 s i

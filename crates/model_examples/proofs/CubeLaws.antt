@@ -4,7 +4,7 @@ use Rattle.std.proofs.lemmas.Int.{ints}
 use Rattle.model_examples.specs.Cubes.{spot, at, half, square, cube, nozzle}
 use Rattle.model_examples.specs.Jobs.{two_cubes, tall_and_low, nozzle_part, gantry_part}
 use Rattle.seq_model.specs.Jobs.{scene_of_job}
-use Rattle.seq_model.specs.Outlines.{Inner}
+use Rattle.seq_model.specs.Outlines.{Inner, Within}
 use Rattle.seq_model.specs.Parts.{tip}
 use Rattle.seq_model.specs.Points.{Point, minus}
 use Rattle.seq_model.specs.Scenes.{Scene, Overlap, Collides}
@@ -19,6 +19,9 @@ pub middle : Inner (square (pos 0) (pos 2)) (at (pos 1) (pos 1))
 middle = record { point = record { positive = le_z_yes tt }; w = pos 1 ∷ pos 1 ∷ pos 1 ∷ pos 1 ∷ []; weights = (le_z_yes tt, (le_z_yes tt, (le_z_yes tt, (le_z_yes tt, tt)))); some = le_z_yes tt; x = refl; y = refl }
 
 -- and a point of its edge isn't
+pub edge_within : Within (square (pos 0) (pos 2)) (at (pos 0) (pos 1))
+edge_within = record { point = record { positive = le_z_yes tt }; w = pos 1 ∷ pos 0 ∷ pos 0 ∷ pos 1 ∷ []; weights = (le_z_yes tt, (le_z_yes tt, (le_z_yes tt, (le_z_yes tt, tt)))); some = le_z_yes tt; x = refl; y = refl }
+
 pub edge : Inner (square (pos 0) (pos 2)) (at (pos 0) (pos 1)) → ⊥
 edge m =
     let beyond = east_of (square (pos 0) (pos 2)) (at (pos 0) (pos 1)) (pos 0) (spot (pos 2) (pos 0)) m (le_z_yes tt, (le_z_yes tt, (le_z_yes tt, (le_z_yes tt, tt)))) (inr (inl refl)) (lt_z_yes tt) in

@@ -65,7 +65,7 @@ clear_of_tip o =
     no_sum o.point.x o.point.d o.of_later.x o.of_later.d o.of_part.x o.of_part.d (pos 26) (pos 1) (pos 22) (negsuc 0) (pos 0) (omega (arith, ints, d)) (omega (arith, ints, l)) (omega (arith, ints, f)) (lt_z_yes tt)
     (lt_from west (simp expand (omega (arith, ints)))) east (le_of_same (sym least)) (le_z_yes tt) o.sum.x
 
-apart : Collides scene 1 (at (pos 1) (pos 1)) 0 (at (pos 26) (pos 1)) → ⊥
+pub apart : Collides scene 1 (at (pos 1) (pos 1)) 0 (at (pos 26) (pos 1)) → ⊥
 apart k = by_part k.part_of_scene.0 k.part_of_scene.1 k.part_of_scene.2
   where
     met : Overlap cube cube k.part.corners (at (pos 1) (pos 1)) (at (pos 26) (pos 1))
@@ -100,7 +100,7 @@ valid_low_first = record {
 }
 
 -- the low one, printed later, has the gantry run into the upper half of the tall one
-run_into : Collides scene 0 (at (pos 26) (pos 1)) 1 (at (pos 1) (pos 1))
+pub run_into : Collides scene 0 (at (pos 26) (pos 1)) 1 (at (pos 1) (pos 1))
 run_into = record {
   b = 0;
   c = 2;

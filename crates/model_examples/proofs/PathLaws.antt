@@ -1,16 +1,18 @@
 -- Paths of two cubes, and lists of choices that are none.
-use Rattle.std.proofs.Common.{[], ◌∷◌, ap, arith, lit<, refl, inl, inr}
+use Rattle.std.proofs.Common.{[], ◌∷◌, ap, subst, sym, arith, lit<, refl, inl, inr}
 use Rattle.std.proofs.lemmas.Int.{ints}
+use lib.Dec.{T}
 use Rattle.integer_laws.specs.Members.{In, In-from_contains}
-use Rattle.model_examples.specs.Certificates.{before, beyond, four_sides}
+use Rattle.model_examples.specs.Certificates.{before, beyond, low_under_the_gantry, four_sides}
 use Rattle.model_examples.specs.Cubes.{first_contact, east, northeast}
-use Rattle.model_examples.specs.Jobs.{two_cubes}
+use Rattle.model_examples.specs.Jobs.{two_cubes, tall_and_low}
 use Rattle.model_examples.proofs.SideLaws.{cube_sides}
 use Rattle.model_examples.proofs.TreeLaws.{is_first}
 use Rattle.model_laws.specs.Reading.{no_choice, path_also}
 use Rattle.seq_model.specs.Contacts.{points_of}
 use Rattle.seq_model.specs.Sides.{Side}
 use Rattle.seq_model.specs.Trees.{IsPath}
+use Rattle.seq_model.specs.declared.tree.Choice.TheVariants as Choices
 use Rattle.seq_model.specs.declared.tree.Dir.{Dir}
 
 east_is_one : Side (points_of two_cubes first_contact) east
@@ -34,3 +36,6 @@ no_side path = among (In-from_contains four_sides northeast ((cube_sides.each no
     among (inr (inr (inl e))) = absurd (omega (arith, ints, ap (λ (d : Dir). d.x) e))
     among (inr (inr (inr (inl e)))) = absurd (omega (arith, ints, ap (λ (d : Dir). d.x) e))
     among (inr (inr (inr (inr none)))) = none
+
+pub no_contact : IsPath tall_and_low (before 1 0 ∷ Choices.Side low_under_the_gantry east ∷ []) → ⊥
+no_contact p = (let h = (p (before 1 0 ∷ []) [] low_under_the_gantry east refl).0.meet in absurd (subst T (sym h) tt))

@@ -4,7 +4,7 @@ use Rattle.std.proofs.lemmas.Int.{ints}
 use Rattle.std.proofs.lemmas.List.Elements.{All-get_or}
 use lib.Signed.{le_z_yes}
 use Rattle.integer_laws.specs.Members.{In, In-from_contains, Contains-from_in}
-use Rattle.model_examples.specs.Certificates.{four_sides, bound, tree}
+use Rattle.model_examples.specs.Certificates.{four_sides, bound, tree, before}
 use Rattle.model_examples.specs.Cubes.{first_contact, second_contact}
 use Rattle.model_examples.specs.Deciding.{contradiction_is}
 use Rattle.model_examples.specs.Jobs.{two_cubes}
@@ -14,6 +14,7 @@ use Rattle.seq_model.specs.Contacts.{IsContact}
 use Rattle.seq_model.specs.Sides.{AreSides}
 use Rattle.seq_model.specs.Systems.{system, Contradiction}
 use Rattle.seq_model.specs.Trees.{IsSoundNode, IsClosed, Reads, Refutes}
+use Rattle.seq_model.specs.declared.tree.Node.TheVariants as Nodes
 use Rattle.seq_model.specs.declared.tree.Choice.{Choice}
 use Rattle.seq_model.specs.declared.tree.Choice.TheVariants as Choices
 use Rattle.seq_model.specs.declared.tree.Dir.{Dir}
@@ -115,3 +116,7 @@ pub tree_refutes_nothing : Refutes two_cubes 45 [] (tree (bound 2 0 4 1)) → �
 tree_refutes_nothing r =
     let side = subst (λ t. Reads two_cubes (λ at node. IsSoundNode two_cubes 45 at node × IsClosed node) (t ++ []) (drop 1 (tree (bound 2 0 4 1))) []) r.2 r.3 in
     first_leaf side.2.0 ((Choices.Before 1 0 ∷ []) ∷ []) side.1 (drop 3 (tree (bound 2 0 4 1))) side.2.1 side.2.2 side.2.3 side.3
+
+-- ---- no contact
+pub no_zone : Refutes two_cubes 100 (before 0 1 ∷ []) (Nodes.Side (record { i = 0; zi = 7; part = 1; zj = 0; j = 1 }) 0 ∷ []) → ⊥
+no_zone r = (let h : 7 < 1 = r.0.0.0.zi_in in absurd (omega (arith, h)))

@@ -4,7 +4,7 @@ use Rattle.std.proofs.Math.Nat.{lt_of_not-le, eq-one_of_dvd-one}
 use Rattle.std.specs.Prelude.{nat_eq, if◌then◌else◌}
 use lib.Dec.{T}
 use lib.Signed.{le_z_yes}
-use Rattle.model_examples.specs.Solving.{FormIs, one_row, big, wide_rows}
+use Rattle.model_examples.specs.Solving.{FormIs, one_row, row_of, big, wide_rows}
 use Rattle.row_walks.specs.Computed.{is_wide, line_of}
 use Rattle.row_walks.specs.Pivots.{next_is}
 use Rattle.row_walks.specs.Wide.{wide_decided}
@@ -44,6 +44,14 @@ stops = (next_is 1 one_row (0 ∷ []) half_form None).0 refl
 
 pub walk_of_one : Walk 1 one_row (1 ∷ []) ((1 ∷ []) ∷ (0 ∷ []) ∷ [])
 walk_of_one = record { before = (1 ∷ []) ∷ []; last = 0 ∷ []; bases_are = refl; begins = refl; follow = (goes_on, never_wide, tt); ends = inl stops }
+
+-- ---- even numbers
+even_form : Form 1 (row_of (pos 2) (pos 2)) (1 ∷ [])
+even_form = record { d = pos 1; lines = (pos 2 ∷ pos 2 ∷ []) ∷ []; many = refl; rising = lit< tt; positive = le_z_yes tt; says = ((refl, refl), tt); reduced = λ k h. eq-one_of_dvd-one h.0 }
+
+pub even : FormIs 1 (row_of (pos 2) (pos 2)) (1 ∷ []) (pos 1) ((pos 2 ∷ pos 2 ∷ []) ∷ [])
+unfolding even_form
+even = record { form = even_form; d_is = refl; lines_are = refl }
 
 -- ---- a wide row
 two_slacks : Form 2 wide_rows (2 ∷ 3 ∷ [])

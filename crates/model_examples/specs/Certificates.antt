@@ -1,8 +1,10 @@
 -- A tree that refutes extent 45 for two cubes, and one that doesn't.
 --
---   four_sides       the sides of two cubes with the nozzle, by angle; six_sides those of two wedges
+--   four_sides       the sides of two cubes with the nozzle, by angle; six_sides those of two wedges, and five_sides all of these
+--                    but (-1, -1)
 --   bound r m s n    the leaf that takes row r m times and row s n times
 --   before i j       the choice that object i is printed before object j
+--   low_under_the_gantry   no contact: object 1, the low cube, before object 0, the tall one, by the gantry
 --   beyond d         the choice that the second of two cubes stands beyond the side d of their first contact
 --   tree first       the tree whose first bound is this leaf: an order of the two cubes, and for each order a leaf on each side
 use Rattle.std.specs.Prelude.{ℕ, List, [], ◌∷◌}
@@ -10,6 +12,7 @@ use Rattle.model_examples.specs.Cubes.{first_contact, second_contact, east, nort
 use Rattle.model_examples.specs.Rows.{times}
 use Rattle.seq_model.specs.declared.tree.Choice.{Choice}
 use Rattle.seq_model.specs.declared.tree.Choice.TheVariants as Choices
+use Rattle.seq_model.specs.declared.tree.Contact.{Contact}
 use Rattle.seq_model.specs.declared.tree.Dir.{Dir}
 use Rattle.seq_model.specs.declared.tree.Node.{Node}
 use Rattle.seq_model.specs.declared.tree.Node.TheVariants as Nodes
@@ -17,11 +20,17 @@ use Rattle.seq_model.specs.declared.tree.Node.TheVariants as Nodes
 abbrev pub four_sides : List Dir
 four_sides = east ∷ north ∷ west ∷ south ∷ []
 
+abbrev pub five_sides : List Dir
+five_sides = east ∷ northeast ∷ north ∷ west ∷ south ∷ []
+
 abbrev pub six_sides : List Dir
 six_sides = east ∷ northeast ∷ north ∷ west ∷ southwest ∷ south ∷ []
 
 abbrev pub before : ℕ → ℕ → Choice
 before i j = Choices.Before i j
+
+abbrev pub low_under_the_gantry : Contact
+low_under_the_gantry = record { i = 1; zi = 0; part = 2; zj = 0; j = 0 }
 
 abbrev pub beyond : Dir → Choice
 beyond d = Choices.Side first_contact d

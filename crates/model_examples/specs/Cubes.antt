@@ -7,7 +7,7 @@
 --   cube, wedge           the outlines of a cube and of a wedge, each the same for all bands
 --   nozzle, gantry        the corners of the two parts
 --   object_of outline     an object of two bands with this outline, which reaches from -1 to 21
---   facet                 a triangle from the origin up to 15 mm
+--   facet                 a triangle from the origin up to 15 mm; slanted is one off the origin, from 5 mm up to 25 mm
 --   first_contact         object 0 before object 1 by the nozzle; second_contact is the other way round
 use Rattle.std.specs.Prelude.{List, [], ◌∷◌, ℤ, pos, negsuc}
 use Rattle.seq_model.specs.Points.{Point}
@@ -79,4 +79,11 @@ facet = record {
   a = record { x = pos 0; y = pos 0; z = pos 0 };
   b = record { x = pos 3_000; y = pos 0; z = pos 15_000 };
   c = record { x = pos 0; y = pos 3_000; z = pos 15_000 };
+}
+
+abbrev pub slanted : Facet
+slanted = record {
+  a = record { x = pos 1_000; y = pos 2_000; z = pos 5_000 };
+  b = record { x = pos 4_000; y = pos 2_000; z = pos 25_000 };
+  c = record { x = pos 1_000; y = pos 8_000; z = pos 10_000 };
 }

@@ -6,6 +6,7 @@
 --   brick                       an object of two bands, from (-3, -1) to (7, 4)
 --   house                       an object of four bands: a rectangle from (-1, -2) to (15, 9), and a roof above it, up to y = 10
 --   uneven                      the job of the brick and then the house
+--   uneven_files mesh           the scene of the files of one mesh for this printer, with no part listed
 --   roof_by_the_shoe            the contact of the house's roof, earlier, and the brick by the shoe; walls_by_the_shoe that of its walls
 --   slope, slope_then_west      the direction (9, 5); the path on which the house comes first, and the brick stands beyond that side of the
 --                               roof and to the west of the walls
@@ -16,11 +17,13 @@ use lib.Signed.{le_z_yes}
 use Rattle.seq_model.specs.Bounds.{IsPrinter}
 use Rattle.seq_model.specs.Corners.{AreCorners}
 use Rattle.seq_model.specs.Parts.{tip, IsSoundPart, AreParts}
+use Rattle.seq_model.specs.Scenes.{Scene, scene_of_files, description_of}
 use Rattle.seq_model.specs.Soundness.{IsSoundZone, IsSoundObject}
 use Rattle.seq_model.specs.Systems.{Row}
 use Rattle.seq_model.specs.declared.job.Job.{Job}
 use Rattle.seq_model.specs.declared.job.Object.{Object}
 use Rattle.seq_model.specs.declared.job.Zone.{Zone}
+use Rattle.seq_model.specs.declared.mesh.Facet.{Facet}
 use Rattle.seq_model.specs.declared.printer.Part.{Part}
 use Rattle.seq_model.specs.declared.printer.Printer.{Printer}
 use Rattle.seq_model.specs.declared.printer.Spot.{Spot}
@@ -109,6 +112,9 @@ sound_house = record {
 
 abbrev pub uneven : Job
 uneven = record { printer = uneven_printer; objects = brick ∷ house ∷ []; sound = record { some = lit≤ tt; few = lit≤ tt; each = all_of IsSoundObject (brick ∷ house ∷ []) (sound_brick, (sound_house, tt)) } }
+
+abbrev pub uneven_files : List Facet → Scene
+uneven_files mesh = scene_of_files (description_of uneven_printer (tip ∷ [])) (mesh ∷ [])
 
 -- ---- a path of it
 abbrev pub roof_by_the_shoe : Contact

@@ -12,7 +12,10 @@
 pub mod bands;
 pub mod outlines;
 pub mod pairs;
+pub mod plans;
+pub mod scenes;
 pub mod sides;
+pub mod soundness;
 pub mod splits;
 pub mod systems;
 pub mod trees;

@@ -1,14 +1,15 @@
 //! Inner points, and the regions of extents.
 
 ghost use Rattle.std.specs.Prelude.{◌≡◌, pos};
-ghost use Rattle.seq_model.specs.Outlines.{Inner};
+ghost use Rattle.seq_model.specs.Outlines.{Inner, Within};
 ghost use Rattle.seq_model.specs.Plates.{region_of};
 ghost use Rattle.model_examples.specs.Cubes.{square, at, spot};
 
-/// A square's middle is inner to it, and a point of its edge isn't.
+/// A square's middle is inner to it, and a point of its edge isn't, but is within it.
 pub fn middle_and_edge_of_a_square()
     ensures middle { Inner (square (pos 0) (pos 2)) (at (pos 1) (pos 1)) }
     ensures edge { Inner (square (pos 0) (pos 2)) (at (pos 0) (pos 1)) → ⊥ }
+    ensures edge_is_within { Within (square (pos 0) (pos 2)) (at (pos 0) (pos 1)) }
 {}
 
 /// Regions of a plate of 100 by 100 with a grid of 100.

@@ -3,7 +3,7 @@
 ghost use Rattle.std.specs.Prelude.{◌≡◌, [], ◌∷◌, pos, map};
 ghost use Rattle.seq_model.specs.Contacts.{points_of};
 ghost use Rattle.seq_model.specs.Sides.{AreSides, Beyond, greatest_along};
-ghost use Rattle.model_examples.specs.Certificates.{four_sides, six_sides};
+ghost use Rattle.model_examples.specs.Certificates.{four_sides, five_sides, six_sides};
 ghost use Rattle.model_examples.specs.Cubes.{first_contact, at, half, east};
 ghost use Rattle.model_examples.specs.Jobs.{two_cubes, two_wedges};
 
@@ -19,8 +19,9 @@ pub fn beyond_the_side_to_the_east()
     ensures at_47_2 { Beyond (points_of two_cubes first_contact) east (half (pos 47) (pos 0)) → ⊥ }
 {}
 
-/// Those of two wedges are just six: (1, 0), (1, 1), (0, 1), (-1, 0), (-1, -1) and (0, -1).
+/// Those of two wedges are just six: (1, 0), (1, 1), (0, 1), (-1, 0), (-1, -1) and (0, -1), and no fewer.
 pub fn sides_of_two_wedges()
     ensures sides { AreSides (points_of two_wedges first_contact) six_sides }
+    ensures all { AreSides (points_of two_wedges first_contact) five_sides → ⊥ }
     ensures greatest { map (λ dir. greatest_along dir (points_of two_wedges first_contact)) six_sides ≡ pos 24 ∷ pos 28 ∷ pos 24 ∷ pos 24 ∷ pos 28 ∷ pos 24 ∷ [] }
 {}

@@ -4,13 +4,15 @@ ghost use Rattle.std.specs.Prelude.{◌≡◌, ℕ, List, [], ◌∷◌, pos, le
 ghost use Rattle.seq_model.specs.Budgets.{IsMostSides};
 ghost use Rattle.seq_model.specs.Jobs.{scene_of_job};
 ghost use Rattle.seq_model.specs.Scenes.{Valid};
-ghost use Rattle.seq_model.specs.Splits.{Earned, SpentTree};
+ghost use Rattle.seq_model.specs.Splits.{AreNeighbours, CouldSplit, Earned, Grounded, IsForced, OpenTree, SpentTree};
 ghost use Rattle.seq_model.specs.Systems.{place_of};
 ghost use Rattle.seq_model.specs.declared.tree.Node.{Node};
 ghost use Rattle.seq_model.specs.declared.tree.Node.TheVariants as Nodes;
-ghost use Rattle.model_examples.specs.Cubes.{at};
-ghost use Rattle.model_examples.specs.Jobs.{two_cubes, tall_and_low};
-ghost use Rattle.model_examples.specs.Plans.{beside_each_other, low_then_tall, tall_then_low};
+ghost use Rattle.model_examples.specs.Certificates.{before};
+ghost use Rattle.model_examples.specs.Cubes.{at, first_contact};
+ghost use Rattle.model_examples.specs.Jobs.{two_cubes, tall_and_low, cube_on_a_narrow_plate};
+ghost use Rattle.model_examples.specs.Plans.{beside_each_other, low_then_tall, tall_then_low, tall_to_the_east};
+ghost use Rattle.model_examples.specs.Rows.{path_to_the_east};
 
 /// Extent 46 has room for two cubes beside each other: with u = (0, 0) and (24, 0) they stand at (28, 28) and (52, 28), and that is a
 /// valid plan.
@@ -39,4 +41,26 @@ pub fn a_tree_is_spent_by_its_length()
     ensures three_over { SpentTree two_cubes 100 0 (Nodes.Order 0 1 ∷ Nodes.Pending ∷ Nodes.Pending ∷ []) }
     ensures four_over { (nodes : List Node) → length nodes ≡ 4 → SpentTree two_cubes 100 0 nodes → ⊥ }
     ensures one_under { SpentTree two_cubes 100 2 (Nodes.Pending ∷ []) → ⊥ }
+{}
+
+/// Where the tall cube stands 25 grains to the east of the low one, the gantry runs into it if it is printed first, and nothing collides if
+/// the low one is: so there the low one first is forced. With the other order on the path the two are neighbours of a cycle.
+pub fn the_low_cube_is_forced_first()
+    ensures forced { IsForced tall_and_low 100 tall_to_the_east 1 0 }
+    ensures neighbours { AreNeighbours tall_and_low 100 (before 0 1 ∷ []) tall_to_the_east 1 0 }
+{}
+
+/// A split has a cause at a point of its own path. An order that is chosen isn't split again, and where no point meets the rows of a path,
+/// as at extent 45 where the second cube stands to the east of the first, no contact collides.
+pub fn splits_without_a_cause()
+    ensures ordered { Grounded two_cubes 100 (before 0 1 ∷ []) (Nodes.Order 0 1) → ⊥ }
+    ensures nowhere { Grounded two_cubes 45 path_to_the_east (Nodes.Side first_contact 4) → ⊥ }
+{}
+
+/// Extent 21 has no room for a cube, so that no split of two cubes is earned there, and no tree of them that has one is open. One object
+/// has nothing to split.
+pub fn nothing_to_split()
+    ensures no_room { CouldSplit two_cubes 21 [] → ⊥ }
+    ensures not_open { OpenTree two_cubes 21 (Nodes.Order 0 1 ∷ Nodes.Pending ∷ Nodes.Pending ∷ []) → ⊥ }
+    ensures one_object { CouldSplit cube_on_a_narrow_plate 100 [] → ⊥ }
 {}

@@ -2,7 +2,7 @@
 
 ghost use Rattle.std.specs.Prelude.{◌≡◌, ◌↔◌, ℕ, [], ◌∷◌, pos, negsuc};
 ghost use Rattle.seq_model.specs.Budgets.{IsMostSides, Full};
-ghost use Rattle.seq_model.specs.Systems.{system, Contradiction};
+ghost use Rattle.seq_model.specs.Systems.{system, Contradiction, MeetsRows};
 ghost use Rattle.model_examples.specs.Rows.{row, rows_at_45, path_to_the_east, times};
 ghost use Rattle.model_examples.specs.Jobs.{two_cubes, two_wedges, three_cubes, cube_on_a_narrow_plate};
 
@@ -12,6 +12,11 @@ pub fn two_cubes_at_45()
     ensures rows { system two_cubes 45 path_to_the_east ≡ rows_at_45 }
     ensures contradicts { Contradiction rows_at_45 (times 2 1 4 1) }
     ensures without_row_2 { Contradiction rows_at_45 (times 2 0 4 1) → ⊥ }
+{}
+
+/// At extent 46 the point (0, 0, 24, 0) meets the system of two cubes, of which the later one stands to the east, without room to spare in x.
+pub fn a_point_that_meets_a_system()
+    ensures { MeetsRows (system two_cubes 46 path_to_the_east) (pos 2) (pos 0 ∷ pos 0 ∷ pos 48 ∷ pos 0 ∷ []) }
 {}
 
 /// The bounds of one cube at extent 46 of a plate of 100 by 50, whose region is 46 by 23: 24 in x and 1 in y.
@@ -35,4 +40,10 @@ pub fn nodes_enough_for_two_wedges()
 pub fn nodes_enough_for_three_cubes()
     ensures most_sides { (s : ℕ) → IsMostSides three_cubes s ↔ (s ≡ 4) }
     ensures full { (n : ℕ) → Full three_cubes n ↔ (n ≡ 65_536) }
+{}
+
+/// One object has no contact, so the number of sides that counts is 3. Its number of nodes is 2.
+pub fn nodes_enough_for_one_cube()
+    ensures most_sides { (s : ℕ) → IsMostSides cube_on_a_narrow_plate s ↔ (s ≡ 3) }
+    ensures full { (n : ℕ) → Full cube_on_a_narrow_plate n ↔ (n ≡ 2) }
 {}

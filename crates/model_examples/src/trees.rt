@@ -2,10 +2,11 @@
 
 ghost use Rattle.std.specs.Prelude.{[], ◌∷◌};
 ghost use Rattle.seq_model.specs.Trees.{IsPath, Refutes};
+ghost use Rattle.seq_model.specs.declared.tree.Choice.TheVariants as Choices;
 ghost use Rattle.seq_model.specs.declared.tree.Node.TheVariants as Nodes;
-ghost use Rattle.model_examples.specs.Certificates.{tree, bound, before, beyond};
+ghost use Rattle.model_examples.specs.Certificates.{tree, bound, before, beyond, low_under_the_gantry};
 ghost use Rattle.model_examples.specs.Cubes.{east, northeast};
-ghost use Rattle.model_examples.specs.Jobs.{two_cubes, three_cubes};
+ghost use Rattle.model_examples.specs.Jobs.{two_cubes, three_cubes, tall_and_low};
 
 /// Two cubes don't fit extent 45: whichever comes first, on each side of the other two rows contradict each other. Without row 2
 /// the first of these leaves contradicts nothing, and the tree refutes nothing.
@@ -27,10 +28,17 @@ pub fn cycles_of_a_path()
 {}
 
 /// The second of two cubes may be put to the east of the first once the first is printed before it: not without this order, not before it
-/// is chosen, and not beyond a direction that is no side of the two.
+/// is chosen, and not beyond a direction that is no side of the two. Nor is there a side by the gantry of a low cube, printed first, and a
+/// tall one: the gantry doesn't reach it.
 pub fn a_side_follows_its_order()
     ensures follows { IsPath two_cubes (before 0 1 ∷ beyond east ∷ []) }
     ensures alone { IsPath two_cubes (beyond east ∷ []) → ⊥ }
     ensures too_soon { IsPath two_cubes (beyond east ∷ before 0 1 ∷ []) → ⊥ }
     ensures no_side { IsPath two_cubes (before 0 1 ∷ beyond northeast ∷ []) → ⊥ }
+    ensures no_contact { IsPath tall_and_low (before 1 0 ∷ Choices.Side low_under_the_gantry east ∷ []) → ⊥ }
+{}
+
+/// A side node is of a contact that exists, even if it has no children: a cube has no zone 7.
+pub fn a_side_node_of_no_contact()
+    ensures { Refutes two_cubes 100 (before 0 1 ∷ []) (Nodes.Side (record { i = 0; zi = 7; part = 1; zj = 0; j = 1 }) 0 ∷ []) → ⊥ }
 {}

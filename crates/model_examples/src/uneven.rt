@@ -4,9 +4,9 @@ ghost use Rattle.std.specs.Prelude.{◌≡◌, [], ◌∷◌, pos, negsuc, map, 
 ghost use Rattle.seq_model.specs.Budgets.{contact_count, full_of};
 ghost use Rattle.seq_model.specs.Contacts.{points_of};
 ghost use Rattle.seq_model.specs.Plates.{region_of};
-ghost use Rattle.seq_model.specs.Sides.{greatest_along};
+ghost use Rattle.seq_model.specs.Sides.{Beyond, greatest_along};
 ghost use Rattle.seq_model.specs.Systems.{system, place_of};
-ghost use Rattle.model_examples.specs.Cubes.{spot, half, east, north, west, south};
+ghost use Rattle.model_examples.specs.Cubes.{spot, at, half, east, north, west, south};
 ghost use Rattle.model_examples.specs.Jobs.{tall_and_low};
 ghost use Rattle.model_examples.specs.Uneven.{uneven, uneven_rows, slope, slope_then_west, roof_by_the_shoe};
 
@@ -42,4 +42,10 @@ pub fn contacts_of_the_fuller_order()
     ensures house_first { contact_count uneven 1 0 ≡ 3 }
     ensures brick_and_house { full_of uneven 5 ≡ 500 }
     ensures tall_and_low { full_of tall_and_low 4 ≡ 256 }
+{}
+
+/// The brick at (16, 5) from the house is just beyond the slope of its roof, since 9 * 16 + 5 * 5 is 169, and at (16, 9/2) it isn't.
+pub fn beyond_the_slope()
+    ensures on { Beyond (points_of uneven roof_by_the_shoe) slope (at (pos 16) (pos 5)) }
+    ensures short { Beyond (points_of uneven roof_by_the_shoe) slope (half (pos 32) (pos 9)) → ⊥ }
 {}

@@ -13,6 +13,11 @@ pub fn half_meets_one_row()
     ensures walk { Walk 1 one_row (1 ∷ []) ((1 ∷ []) ∷ (0 ∷ []) ∷ []) }
 {}
 
+/// The slack of `2 + 2 u >= 0` is 2 + 2 u over the denominator 1: that 2 divides the line alone is no matter.
+pub fn a_form_of_even_numbers()
+    ensures { FormIs 1 (row_of (pos 2) (pos 2)) (1 ∷ []) (pos 1) ((pos 2 ∷ pos 2 ∷ []) ∷ []) }
+{}
+
 /// Of the rows `-1 + 2^61 u >= 0` and `-2 + u + 3 v >= 0` the walk from the slacks 2 and 3 would go on to the basis 0, 3. Over 2^61 slack
 /// 3 has there the constant 1 - 2^62 and the entries 3 * 2^61 of v and 1 of slack 2, so that it is wide, and the walk ends before it.
 pub fn a_walk_ends_before_a_wide_row()

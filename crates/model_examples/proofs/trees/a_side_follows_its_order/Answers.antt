@@ -1,4 +1,4 @@
-use Rattle.model_examples.proofs.PathLaws.{follows, alone, too_soon, no_side}
+use Rattle.model_examples.proofs.PathLaws.{follows, alone, too_soon, no_side, no_contact}
 use Rattle.model_examples.proofs.trees.a_side_follows_its_order.Goals as goal
 
 pub returns-clause-follows : goal.returns-clause-follows
@@ -12,3 +12,6 @@ returns-clause-too_soon c = too_soon
 
 pub returns-clause-no_side : goal.returns-clause-no_side
 returns-clause-no_side c = no_side
+
+pub returns-clause-no_contact : goal.returns-clause-no_contact
+returns-clause-no_contact c = no_contact
