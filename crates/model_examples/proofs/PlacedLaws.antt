@@ -1,15 +1,17 @@
 -- One cube in a corner, plans of two cubes that aren't whole, and an extent that isn't the least.
 use Rattle.std.proofs.Common.{◌≡◌, ℕ, zero, suc, All, ◌<◌, [], ◌∷◌, refl, arith, pos, lit<, lit≤}
+use Rattle.std.proofs.lemmas.Int.{ints}
 use lib.Signed.{le_z_yes}
 use Rattle.std.specs.Prelude.{count_by, nat_eq}
 use Rattle.seq_model.specs.Jobs.{scene_of_job}
 use Rattle.seq_model.specs.Plates.{region_of}
 use Rattle.seq_model.specs.Scenes.{LiesIn, Valid, Least}
 use Rattle.seq_model.specs.declared.plan.Place.{Place}
-use Rattle.model_examples.specs.Cubes.{cube}
+use Rattle.model_examples.specs.Cubes.{cube, spot}
 use Rattle.model_examples.specs.Deciding.{all_of}
 use Rattle.model_examples.specs.Jobs.{two_cubes, cube_on_a_narrow_plate}
-use Rattle.model_examples.specs.Plans.{beside_each_other, halves, in_the_far_corner, without_the_second, with_a_third}
+use Rattle.model_examples.specs.Plans.{beside_each_other, halves, in_the_far_corner, without_the_second, with_a_third, roof_off_the_plate}
+use Rattle.model_examples.specs.Uneven.{uneven}
 use Rattle.model_examples.proofs.PlanLaws.{valid}
 
 four : All (LiesIn (region_of (pos 100) (pos 50) 100 100) (pos 2) (halves 0 158 58)) cube
@@ -49,3 +51,6 @@ stranger v = (let h : 2 < 2 = v.known 2 (record { object = 0; x = pos 0; y = pos
 
 pub least : Least (scene_of_job two_cubes) 47 → ⊥
 least l = l.none 46 (lit< tt) beside_each_other valid
+
+pub roof_off : Valid (scene_of_job uneven) 100 roof_off_the_plate → ⊥
+roof_off v = (let top = (v.inside 1 (halves 0 0 0) (lit< tt) 2 (lit< tt) 2 (spot (pos 0) (pos 0)) (lit< tt)).north in absurd (omega (arith, ints, top)))

@@ -4,7 +4,7 @@ use Rattle.std.proofs.Math.Nat.{lt_of_not-le, eq-one_of_dvd-one}
 use Rattle.std.specs.Prelude.{nat_eq, if◌then◌else◌}
 use lib.Dec.{T}
 use lib.Signed.{le_z_yes}
-use Rattle.model_examples.specs.Solving.{FormIs, one_row, row_of, big, wide_rows}
+use Rattle.model_examples.specs.Solving.{FormIs, one_row, row_of, edge, big, wide_rows, two_wide_rows}
 use Rattle.row_walks.specs.Computed.{is_wide, line_of}
 use Rattle.row_walks.specs.Pivots.{next_is}
 use Rattle.row_walks.specs.Wide.{wide_decided}
@@ -98,3 +98,42 @@ walk_wide = record {
   where
     le_from_not : (r n : ℕ) → (r < n → ⊥) → n ≤ r
     le_from_not r n f = omega (arith, lt_of_not-le {n = suc r} {m = n} f)
+
+-- ---- two wide rows
+low_form : Form 1 two_wide_rows (1 ∷ 2 ∷ [])
+low_form = record { d = pos 1; lines = (negsuc 0 ∷ edge ∷ []) ∷ (pos 1 ∷ pos 0 ∷ []) ∷ []; many = refl; rising = (lit< tt, lit< tt); positive = le_z_yes tt; says = ((refl, refl), ((refl, refl), tt)); reduced = λ k h. eq-one_of_dvd-one h.0 }
+
+high_form : Form 1 two_wide_rows (0 ∷ 2 ∷ [])
+high_form = record {
+  d = edge;
+  lines = (pos 1 ∷ pos 1 ∷ []) ∷ (edge ∷ pos 0 ∷ []) ∷ [];
+  many = refl;
+  rising = (lit< tt, lit< tt);
+  positive = le_z_yes tt;
+  says = ((refl, refl), ((refl, refl), tt));
+  reduced = λ k h. eq-one_of_dvd-one (h.1 0 [] (lit< tt) 0 (pos 0) (lit< tt));
+}
+
+pub wide_at_0 : WideAt 1 two_wide_rows (0 ∷ 2 ∷ []) 0
+unfolding high_form
+wide_at_0 = (wide_decided 1 two_wide_rows (0 ∷ 2 ∷ []) high_form 0).1 refl
+
+pub wide_at_2 : WideAt 1 two_wide_rows (0 ∷ 2 ∷ []) 2
+unfolding high_form
+wide_at_2 = (wide_decided 1 two_wide_rows (0 ∷ 2 ∷ []) high_form 2).1 refl
+
+low_pivots : Pivots 1 two_wide_rows (1 ∷ 2 ∷ []) (0 ∷ 2 ∷ [])
+unfolding low_form
+low_pivots = (next_is 1 two_wide_rows (1 ∷ 2 ∷ []) low_form (Some (0 ∷ 2 ∷ []))).0 refl
+
+pub least_named : WalkWide 1 two_wide_rows (0 ∷ 2 ∷ []) 0
+least_named = record {
+  bases = (1 ∷ 2 ∷ []) ∷ [];
+  walk = record { before = []; last = 1 ∷ 2 ∷ []; bases_are = refl; begins = refl; follow = tt; ends = inr (0 ∷ 2 ∷ [], low_pivots, (0, wide_at_0)) };
+  next = low_pivots;
+  wide = wide_at_0;
+  least = λ r w. omega arith;
+}
+
+pub other_not_named : WalkWide 1 two_wide_rows (0 ∷ 2 ∷ []) 2 → ⊥
+other_not_named w = let least = w.least 0 wide_at_0 in absurd (omega (arith, least))

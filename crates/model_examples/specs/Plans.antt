@@ -6,6 +6,7 @@
 --   tall_to_the_east          the point at which the tall cube stands 25 grains to the east of the low one
 --   halves o x y              object o at (x / 2, y / 2), in a plan over scale 2
 --   in_the_far_corner         one cube at (79, 29), so that it reaches to (100, 50)
+--   roof_off_the_plate        the brick at (50, 10) and the house at (50, 101/2)
 --   without_the_second, with_a_third     two cubes beside each other, less the second one, and with a third one
 use Rattle.std.specs.Prelude.{ℕ, [], ◌∷◌, ◌++◌, pos}
 use Rattle.seq_model.specs.Splits.{Values}
@@ -41,3 +42,6 @@ with_a_third = record { scale = pos 1; places = beside_each_other.places ++ reco
 
 abbrev pub tall_to_the_east : Values
 tall_to_the_east = record { d = pos 1; u = pos 25 ∷ pos 0 ∷ pos 0 ∷ pos 0 ∷ [] }
+
+abbrev pub roof_off_the_plate : Plan
+roof_off_the_plate = record { scale = pos 2; places = halves 0 100 20 ∷ halves 1 100 101 ∷ [] }

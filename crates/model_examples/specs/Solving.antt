@@ -4,6 +4,7 @@
 --   row_of c a                       the row c + a u >= 0 alone; edge is 2^62, and below_edge 2^62 - 1
 --   one_row                          -1 + 2 u >= 0
 --   big, wide_rows                   2^61, and the rows -1 + 2^61 u >= 0 and -2 + u + 3 v >= 0
+--   two_wide_rows                    -1 + 2^62 u >= 0 and 1 >= 0
 use Rattle.std.specs.Prelude.{◌≡◌, ℕ, ◌^◌, ◌-◌, List, [], ◌∷◌, ℤ, pos, negsuc}
 use Rattle.model_examples.specs.Rows.{row}
 use Rattle.seq_model.specs.Dictionaries.{Form}
@@ -31,3 +32,6 @@ big = pos (2 ^ 61)
 
 abbrev pub wide_rows : List Row
 wide_rows = row (negsuc 0) (big ∷ pos 0 ∷ []) ∷ row (negsuc 1) (pos 1 ∷ pos 3 ∷ []) ∷ []
+
+abbrev pub two_wide_rows : List Row
+two_wide_rows = row (negsuc 0) (edge ∷ []) ∷ row (pos 1) (pos 0 ∷ []) ∷ []

@@ -3,11 +3,17 @@
 ghost use Rattle.seq_model.specs.Jobs.{scene_of_job};
 ghost use Rattle.seq_model.specs.Scenes.{Valid, Least};
 ghost use Rattle.model_examples.specs.Jobs.{two_cubes, cube_on_a_narrow_plate};
-ghost use Rattle.model_examples.specs.Plans.{in_the_far_corner, without_the_second, with_a_third};
+ghost use Rattle.model_examples.specs.Plans.{in_the_far_corner, without_the_second, with_a_third, roof_off_the_plate};
+ghost use Rattle.model_examples.specs.Uneven.{uneven};
 
 /// A cube fits into the far corner of a plate of 100 by 50, which is the whole of extent 100.
 pub fn a_cube_in_the_far_corner()
     ensures { Valid (scene_of_job cube_on_a_narrow_plate) 100 in_the_far_corner }
+{}
+
+/// Each band has to lie on the plate: the walls of the house reach to 119/2 of its depth of 60, and its roof to 121/2.
+pub fn a_roof_off_the_plate()
+    ensures { Valid (scene_of_job uneven) 100 roof_off_the_plate → ⊥ }
 {}
 
 /// A plan of two cubes has each of them, and nothing else.

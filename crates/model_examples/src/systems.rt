@@ -8,10 +8,12 @@ ghost use Rattle.model_examples.specs.Jobs.{two_cubes, two_wedges, three_cubes, 
 
 /// The system of two cubes at extent 45, of which the later one stands to the east: `23 - u >= 0` in rows 0 to 3, and
 /// `-24 + u_1x - u_0x >= 0` in row 4. Rows 2 and 4 contradict each other, and row 4 with none of row 2 contradicts nothing.
+/// There is no row 5 to be taken.
 pub fn two_cubes_at_45()
     ensures rows { system two_cubes 45 path_to_the_east ≡ rows_at_45 }
     ensures contradicts { Contradiction rows_at_45 (times 2 1 4 1) }
     ensures without_row_2 { Contradiction rows_at_45 (times 2 0 4 1) → ⊥ }
+    ensures no_row_5 { Contradiction rows_at_45 (record { row = 5; times = pos 1 } ∷ times 2 1 4 1) → ⊥ }
 {}
 
 /// At extent 46 the point (0, 0, 24, 0) meets the system of two cubes, of which the later one stands to the east, without room to spare in x.

@@ -1,7 +1,7 @@
 //! Walks from basis to basis.
 
 ghost use Rattle.std.specs.Prelude.{[], ◌∷◌, pos, negsuc, neg_ℤ, ◌-ℤ◌, ◌*ℤ◌};
-ghost use Rattle.model_examples.specs.Solving.{FormIs, one_row, big, wide_rows, row_of, edge, below_edge};
+ghost use Rattle.model_examples.specs.Solving.{FormIs, one_row, big, wide_rows, two_wide_rows, row_of, edge, below_edge};
 ghost use Rattle.seq_model.specs.Dictionaries.{WideAt};
 ghost use Rattle.seq_model.specs.Walks.{Walk, WalkWide};
 
@@ -24,6 +24,15 @@ pub fn a_walk_ends_before_a_wide_row()
     ensures form { FormIs 2 wide_rows (0 ∷ 3 ∷ []) big ((pos 1 ∷ pos 0 ∷ pos 1 ∷ []) ∷ ((pos 1 -ℤ pos 2 *ℤ big) ∷ (pos 3 *ℤ big) ∷ pos 1 ∷ []) ∷ []) }
     ensures wide { WideAt 2 wide_rows (0 ∷ 3 ∷ []) 3 }
     ensures walk { WalkWide 2 wide_rows (0 ∷ 3 ∷ []) 3 }
+{}
+
+/// Of the rows `-1 + 2^62 u >= 0` and `1 >= 0` the walk ends before the basis 0, 2, whose denominator 2^62 makes it wide at both rows. The
+/// least of them is named.
+pub fn the_least_wide_row_is_named()
+    ensures first { WideAt 1 two_wide_rows (0 ∷ 2 ∷ []) 0 }
+    ensures second { WideAt 1 two_wide_rows (0 ∷ 2 ∷ []) 2 }
+    ensures named { WalkWide 1 two_wide_rows (0 ∷ 2 ∷ []) 0 }
+    ensures not_named { WalkWide 1 two_wide_rows (0 ∷ 2 ∷ []) 2 → ⊥ }
 {}
 
 /// Wide is 2^62 and more in size, of an entry, of a constant, or of the denominator alone, and 2^62 - 1 isn't. Where u is basic

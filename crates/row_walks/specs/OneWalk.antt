@@ -1,11 +1,13 @@
 -- A start has at most one walk.
 --
 --   one_walk     two walks from a start are the same
-use Rattle.std.proofs.Common.{◌≡◌, ℕ, List, [], ◌∷◌, ◌++◌, refl, ap, sym, subst, ◌∙◌, Some, None, inl, inr}
+--   one_wide     so the walk from all slacks ends before one wide basis at most, and one row of it is the least
+use Rattle.std.proofs.Common.{◌≡◌, ℕ, List, [], ◌∷◌, ◌++◌, drop, get_or, length, arith, refl, ap, sym, subst, ◌∙◌, Some, None, inl, inr}
 use Rattle.std.proofs.lemmas.Option.{same_Some, none-some}
 use Rattle.row_walks.specs.Pivots.{same_result}
+use Rattle.seq_model.specs.Dictionaries.{WideAt}
 use Rattle.seq_model.specs.Systems.{Row}
-use Rattle.seq_model.specs.Walks.{Pivots, IsWide, Ends, Follow, Walk}
+use Rattle.seq_model.specs.Walks.{Pivots, IsWide, Ends, Follow, Walk, slacks, WalkWide}
 
 one_next : (vars : ℕ) (rows : List Row) (basis a b : List ℕ) → Pivots vars rows basis a → Pivots vars rows basis b → a ≡ b
 one_next vars rows basis a b p q = same_Some a b (same_result vars rows basis (Some a) (Some b) p q)
@@ -46,3 +48,26 @@ one_walk vars rows start (b ∷ bs) (c ∷ cs) v w =
     let q = same_Some c start w.begins in
     let r = one_way vars rows start bs cs (subst (λ t. Steps vars rows (t ∷ bs)) p (steps_of vars rows start (b ∷ bs) v)) (subst (λ t. Steps vars rows (t ∷ cs)) q (steps_of vars rows start (c ∷ cs) w)) in
     ap (λ t. t ∷ bs) p ∙ ap (λ t. start ∷ t) r ∙ ap (λ t. t ∷ cs) (sym q)
+
+last_same : (a b : List (List ℕ)) (x y : List ℕ) → a ++ x ∷ [] ≡ b ++ y ∷ [] → x ≡ y
+last_same [] [] x y e = ap (λ l. get_or l 0 x) e
+last_same [] (c ∷ []) x y e = absurd (omega (arith, ap length e))
+last_same [] (c ∷ d ∷ b) x y e = absurd (omega (arith, ap length e))
+last_same (c ∷ []) [] x y e = absurd (omega (arith, ap length e))
+last_same (c ∷ d ∷ a) [] x y e = absurd (omega (arith, ap length e))
+last_same (c ∷ a) (d ∷ b) x y e = last_same a b x y (ap (drop 1) e)
+
+pub one_wide : (vars : ℕ) (rows : List Row) (b c : List ℕ) (i j : ℕ) → WalkWide vars rows b i → WalkWide vars rows c j → (b ≡ c) × (i ≡ j)
+one_wide vars rows b c i j v w =
+    let up = v.least j (subst (λ t. WideAt vars rows t j) (sym same) w.wide) in
+    let down = w.least i (subst (λ t. WideAt vars rows t i) same v.wide) in
+    (same, omega (arith, up, down))
+  where
+    bases : v.bases ≡ w.bases
+    bases = one_walk vars rows (slacks vars rows) v.bases w.bases v.walk w.walk
+
+    last : v.walk.last ≡ w.walk.last
+    last = last_same v.walk.before w.walk.before v.walk.last w.walk.last (sym v.walk.bases_are ∙ bases ∙ w.walk.bases_are)
+
+    same : b ≡ c
+    same = one_next vars rows w.walk.last b c (subst (λ t. Pivots vars rows t b) last v.next) w.next

@@ -11,7 +11,7 @@ ghost use Rattle.std.specs.Prelude.{◌≡◌, ℕ, ◌+◌, List, length, IsTru
 ghost use Rattle.row_walks.specs.Computed.{is_wide, line_of, next_basis};
 ghost use Rattle.seq_model.specs.Dictionaries.{Form, WideAt};
 ghost use Rattle.seq_model.specs.Systems.{Row};
-ghost use Rattle.seq_model.specs.Walks.{Pivots, Stops, Walk};
+ghost use Rattle.seq_model.specs.Walks.{Pivots, Stops, Walk, WalkWide};
 
 /// A basis has at most one form.
 pub fn a_basis_has_one_form_at_most()
@@ -27,6 +27,12 @@ pub fn a_form_decides_where_it_is_wide()
 /// A start has at most one walk.
 pub fn a_start_has_one_walk_at_most()
     ensures { (vars : ℕ) (rows : List Row) (start : List ℕ) (bases others : List (List ℕ)) → Walk vars rows start bases → Walk vars rows start others → bases ≡ others }
+{}
+
+/// The walk from all slacks ends before one wide basis at most, and one row of it is the least at which it is wide.
+pub fn a_walk_ends_before_one_wide_basis_at_most()
+    ensures { (vars : ℕ) (rows : List Row) (basis other : List ℕ) (row another : ℕ) → WalkWide vars rows basis row → WalkWide vars rows other another
+        → (basis ≡ other) × (row ≡ another) }
 {}
 
 /// What is computed of the form of a basis is the step in words: the least-numbered basic variable with a negative constant leaves, the
