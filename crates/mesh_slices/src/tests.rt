@@ -3,8 +3,9 @@ ghost use Rattle.seq_model.specs.Bounds.{IsNear, IsNearFacet};
 
 use super::*;
 use owned_lists::{Items, Text};
-use seq_model::{Facet, Mesh, Part, Point3, Printer, Spot};
+use seq_model::{Facet, Mesh, Part, Point3, Printer, Spot, Zone};
 use std::alloc::{AllocError, Global};
+use std::process::Abort;
 use std::test::Fail;
 
 // A prism over a base in centimetres, counterclockwise, from one height to another; or a cone with its top at the second height,
@@ -23,7 +24,9 @@ const WIDE: &[(i64, i64)] = &[(-1, -1), (21, -1), (21, 21), (-1, 21)];
 
 // Solids, and the number of facets of their mesh, its height in µm, the number of its bands, its span and its zones. The printer
 // has a grain of 1 mm, a margin of 1 mm and bands of 10 mm.
-static SLICED: [(&[Solid], usize, i64, u32, Span, &[Run]); 7] = [
+type Sliced = (&'static [Solid], usize, i64, u32, Span, &'static [Run]);
+
+static SLICED: [Sliced; 7] = [
     // a cube, and a taller one whose middle band holds no vertex
     (
         &[(SQUARE, 0, 2, None)],
@@ -245,41 +248,74 @@ fn spot(place: (i64, i64)) -> Spot {
     }
 }
 
+fn is_run(zone: &Zone, run: &Run) -> bool {
+    let (first, last, corners) = *run;
+    let found = zone.corners.as_slice();
+    if (zone.first, zone.last, found.len()) != (first, last, corners.len()) {
+        return false;
+    }
+    for (corner, place) in found.iter().zip(corners) {
+        if *corner != spot(*place) {
+            return false;
+        }
+    }
+    true
+}
+
+fn are_runs(zones: &[Zone], runs: &[Run]) -> bool {
+    if zones.len() != runs.len() {
+        return false;
+    }
+    for (zone, run) in zones.iter().zip(runs) {
+        if !is_run(zone, run) {
+            return false;
+        }
+    }
+    true
+}
+
+fn see_sliced(rt: &impl Abort, alloc: Global, row: &Sliced) -> Result<(), Fail> {
+    let (solids, facets, height, bands, (low, high), runs) = *row;
+    let printer = printer_of(alloc)?;
+    let mesh = mesh_of(alloc, solids)?.ok_or("too many facets")?;
+    let Ok(object) = object(alloc, "solid", &mesh, &printer) else {
+        return Err("refused".into());
+    };
+    assert_eq!(rt;
+        (
+            mesh.facets.len(),
+            object.name.as_str(),
+            object.height,
+            object.bands,
+            object.low,
+            object.high,
+            are_runs(object.zones.as_slice(), runs)
+        ),
+        (facets, "solid", height, bands, spot(low), spot(high), true)
+    );
+    Ok(())
+}
+
+fn see_refused(rt: &impl Abort, alloc: Global, solids: &[Solid], why: Slice) -> Result<(), Fail> {
+    let printer = printer_of(alloc)?;
+    let mesh = mesh_of(alloc, solids)?.ok_or("too many facets")?;
+    let refusal = object(alloc, "solid", &mesh, &printer).err();
+    assert_eq!(rt; refusal, Some(why));
+    Ok(())
+}
+
 #[test]
 fn meshes_are_sliced(rt: HostRuntime) -> Result<(), Fail> {
-    let printer = printer_of(rt.alloc())?;
-    for (solids, facets, height, bands, (low, high), runs) in &SLICED {
-        let mesh = mesh_of(rt.alloc(), solids)?.ok_or("too many facets")?;
-        assert_eq!(rt; mesh.facets.len(), *facets);
-        let object = object(rt.alloc(), "solid", &mesh, &printer)
-            .ok()
-            .ok_or("refused")?;
-        assert_eq!(rt; object.name.as_str(), "solid");
-        assert_eq!(rt; object.height, *height);
-        assert_eq!(rt; object.bands, *bands);
-        assert_eq!(rt; object.low, spot(*low));
-        assert_eq!(rt; object.high, spot(*high));
-        let zones = object.zones.as_slice();
-        assert_eq!(rt; zones.len(), runs.len());
-        for (zone, (first, last, corners)) in zones.iter().zip(*runs) {
-            assert_eq!(rt; (zone.first, zone.last), (*first, *last));
-            let found = zone.corners.as_slice();
-            assert_eq!(rt; found.len(), corners.len());
-            assert!(rt; found.iter().zip(*corners).all(|(c, d)| *c == spot(*d)));
-        }
+    for row in &SLICED {
+        see_sliced(&rt, rt.alloc(), row)?;
     }
     Ok(())
 }
 
 #[test]
 fn meshes_are_refused(rt: HostRuntime) -> Result<(), Fail> {
-    let printer = printer_of(rt.alloc())?;
     for (solids, why) in &REFUSED {
-        let mesh = mesh_of(rt.alloc(), solids)?.ok_or("too many facets")?;
-        assert_eq!(rt;
-            object(rt.alloc(), "solid", &mesh, &printer).err(),
-            Some(*why)
-        );
+        see_refused(&rt, rt.alloc(), solids, *why)?;
     }
     Ok(())
 }

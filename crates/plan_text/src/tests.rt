@@ -2,35 +2,47 @@ use super::PlanRead::{Line, Missing, Trailing};
 use super::*;
 use seq_model::Place;
 use seq_model::What::{Extent, Grid, Header, Place as PlaceLine, Scale, State as StateLine};
+use std::alloc::{AllocError, Global};
+use std::process::Abort;
 use std::test::Fail;
 
 // six lines, of 10, 12, 9, 11, 8 and 12 bytes
 static FOUND: &[u8] = b"seqplan 1\nstate found\ngrid 100\nextent 100\nscale 1\nplace 0 1 1\n";
 
+// The place where the lines of a plan end, or why it is refused.
+fn place_of(alloc: Global, text: &[u8]) -> Result<usize, PlanRead> {
+    Ok(read_plan(alloc, text)?.1)
+}
+
 #[test]
 fn a_plan_is_read_and_written_again(rt: HostRuntime) -> Result<(), Fail> {
-    let alloc = rt.alloc();
-    let (file, place) = read_plan(alloc, FOUND)?;
-    assert_eq!(rt; place, 62);
-    assert_eq!(rt; file.state, State::Found);
-    assert_eq!(rt; (file.grid, file.extent), (100, 100));
-    assert_eq!(rt; file.plan.scale, 1);
+    let (file, place) = read_plan(rt.alloc(), FOUND)?;
+    let text = write_plan(rt.alloc(), &file)?;
     let places = [Place {
         object: 0,
         x: 1,
         y: 1,
     }];
-    assert_eq!(rt; file.plan.places.as_slice(), places.as_slice());
-    let text = write_plan(alloc, &file)?;
-    assert_eq!(rt; text.as_slice(), FOUND);
+    assert_eq!(rt;
+        (
+            place,
+            file.state,
+            file.grid,
+            file.extent,
+            file.plan.scale,
+            file.plan.places.as_slice(),
+            text.as_slice()
+        ),
+        (62, State::Found, 100, 100, 1, places.as_slice(), FOUND)
+    );
     Ok(())
 }
 
 #[test]
 fn no_prefix_is_a_plan_but_one(rt: HostRuntime) {
     for (len, _) in FOUND.iter().enumerate() {
-        let refusal = read_plan(rt.alloc(), &FOUND[..len]).err();
-        assert_eq!(rt; refusal, if len == 50 { None } else { Some(Missing) });
+        let wanted = if len == 50 { Ok(50) } else { Err(Missing) };
+        assert_eq!(rt; place_of(rt.alloc(), &FOUND[..len]), wanted);
     }
 }
 
@@ -217,23 +229,51 @@ static REFUSED: [(&[u8], PlanRead); 56] = [
     ),
 ];
 
-#[test]
-fn plans_are_read_or_refused(rt: HostRuntime) -> Result<(), Fail> {
-    let alloc = rt.alloc();
-    for (text, place) in READ {
-        assert_eq!(rt; read_plan(alloc, text)?.1, place);
-    }
-    for (text, refusal) in REFUSED {
-        assert_eq!(rt; read_plan(alloc, text).err(), Some(refusal));
-    }
-    let mut text = FOUND[..50].to_vec(alloc)?;
+// What follows sixteen place lines, and what is answered.
+static BEHIND_SIXTEEN: [(&[u8], Result<usize, PlanRead>); 3] = [
+    (b"", Ok(242)),
+    (b"place 0 0 0", Err(Missing)),
+    (b"place 0 0 0\n", Err(Line(22, PlaceLine))),
+];
+
+fn with_sixteen_places(alloc: Global, rest: &[u8]) -> Result<Vec<u8>, AllocError> {
+    let mut text = Vec::from_slice(alloc, &FOUND[..50])?;
     for _ in 0..16 {
         text.extend_from_slice(b"place 0 0 0\n")?;
     }
-    assert_eq!(rt; read_plan(alloc, &text)?.1, 242);
-    text.extend_from_slice(b"place 0 0 0")?;
-    assert_eq!(rt; read_plan(alloc, &text).err(), Some(Missing));
-    text.extend_from_slice(b"\n")?;
-    assert_eq!(rt; read_plan(alloc, &text).err(), Some(Line(22, PlaceLine)));
+    text.extend_from_slice(rest)?;
+    Ok(text)
+}
+
+fn see_behind_sixteen(
+    rt: &impl Abort,
+    alloc: Global,
+    rest: &[u8],
+    wanted: Result<usize, PlanRead>,
+) -> Result<(), Fail> {
+    let text = with_sixteen_places(alloc, rest)?;
+    assert_eq!(rt; place_of(alloc, &text), wanted);
+    Ok(())
+}
+
+#[test]
+fn plans_are_read(rt: HostRuntime) {
+    for (text, place) in &READ {
+        assert_eq!(rt; place_of(rt.alloc(), text), Ok(*place));
+    }
+}
+
+#[test]
+fn plans_are_refused(rt: HostRuntime) {
+    for (text, refusal) in &REFUSED {
+        assert_eq!(rt; place_of(rt.alloc(), text), Err(*refusal));
+    }
+}
+
+#[test]
+fn no_place_line_follows_the_sixteenth(rt: HostRuntime) -> Result<(), Fail> {
+    for (rest, wanted) in &BEHIND_SIXTEEN {
+        see_behind_sixteen(&rt, rt.alloc(), rest, *wanted)?;
+    }
     Ok(())
 }

@@ -1,16 +1,24 @@
 use crate::values::Cause;
 use crate::{Key, Prn, key_text, read_printer};
-use seq_model::{Part, Spot};
+use seq_model::{Part, Printer, Spot};
 use std::alloc::{AllocError, Global};
+use std::process::Abort;
 use std::test::Fail;
 
 // What a description is refused for.
 #[derive(Clone, Copy, Debug, PartialEq, Eq)]
-enum Want {
+enum Want<'a> {
     Toml,
     Key(Cause, Key, u32),
     TooManyParts,
+    Unknown(&'a str, u32),
 }
+
+// The grain, width, depth, step, margin and grid of a printer.
+type Sizes = (i64, i64, i64, i64, i64, u32);
+
+// The name of a part, its lo and hi, and its kept corners.
+type Listed<'a> = (&'a str, u32, Option<u32>, &'a [(i64, i64)]);
 
 const TO_GRAIN: &str = "format = 1\n";
 
@@ -51,7 +59,7 @@ const FINE_TO_TO: &str =
     "format = 1\ngrain = \"0.01\"\nplate = [200, \"0.01\"]\nstep = \"0.01\"\nmargin = 10\ngrid = 1000\n[[part]]\nname = \"a\"\nfrom = 0\n";
 
 // the lines that a description begins with, those that follow, and its refusal
-static REFUSED: [(&str, &str, Want); 108] = [
+static REFUSED: [(&str, &str, Want); 117] = [
     // the top table, key by key
     ("", "", Want::Key(Cause::Missing, Key::Format, 0)),
     ("", "format = \"1\"", Want::Key(Cause::Kind, Key::Format, 0)),
@@ -433,33 +441,40 @@ static REFUSED: [(&str, &str, Want); 108] = [
     ("", "format = ", Want::Toml),
     ("", "format = 9223372036854775808", Want::Toml),
     ("", "format = 1\nformat = 1", Want::Toml),
-];
-
-// the same, and the first other key with the number of its table
-static UNKNOWN: [(&str, &str, &str, u32); 9] = [
-    (TOP, "zz = 1\nab = 2\n", "ab", 0),
-    (TOP, "obstacle = []\n", "obstacle", 0),
-    (TOP, "Grid = 1\npart = [{}]\n", "Grid", 0),
-    (TOP, "name = \"a\"\n", "name", 0),
+    // the first other key, with the number of its table
+    (TOP, "zz = 1\nab = 2\n", Want::Unknown("ab", 0)),
+    (TOP, "obstacle = []\n", Want::Unknown("obstacle", 0)),
+    (TOP, "Grid = 1\npart = [{}]\n", Want::Unknown("Grid", 0)),
+    (TOP, "name = \"a\"\n", Want::Unknown("name", 0)),
     (
         TO_TO,
         "bar = \"x\"\ncorners = [[0, 0]]\nlow = 0\nhigh = 1\n",
-        "corners",
-        1,
+        Want::Unknown("corners", 1),
     ),
-    (TO_TO, "corners = [[0, 0]]\nlow = 0\nhigh = 1\n", "high", 1),
-    (TO_TO, "corners = [[0, 0]]\nlow = 0\n", "low", 1),
-    (TO_TO, "corners = [[0, 0]]\nfroM = 0\nTo = 9\n", "To", 1),
+    (
+        TO_TO,
+        "corners = [[0, 0]]\nlow = 0\nhigh = 1\n",
+        Want::Unknown("high", 1),
+    ),
+    (
+        TO_TO,
+        "corners = [[0, 0]]\nlow = 0\n",
+        Want::Unknown("low", 1),
+    ),
+    (
+        TO_TO,
+        "corners = [[0, 0]]\nfroM = 0\nTo = 9\n",
+        Want::Unknown("To", 1),
+    ),
     (
         SECOND,
         "name = \"b\"\nfrom = 0\ncorners = [[0, 0]]\ngrain = 1\n",
-        "grain",
-        2,
+        Want::Unknown("grain", 2),
     ),
 ];
 
-// the same, and the grain, width, depth, step, margin and grid of the printer
-static SIZES: [(&str, &str, (i64, i64, i64, i64, i64, u32)); 6] = [
+// the same, and the sizes of the printer
+static SIZES: [(&str, &str, Sizes); 6] = [
     (TOP, "", (1000, 100, 100, 10000, 1, 100)),
     (
         TO_STEP,
@@ -584,8 +599,19 @@ static PARTS: [(&str, &str, u32, Option<u32>, &[(i64, i64)]); 12] = [
 static P1: &str =
     "format = 1\ngrain = 1\nplate = [100, 100]\nstep = 10\nmargin = 1\ngrid = 100\n\n[[part]]\nname = \"nozzle\"\nfrom = 0\ncorners = [[-2, -2], [2, -2], [2, 2], [-2, 2]]\n\n[[part]]\nname = \"gantry\"\nfrom = 20\nbar = \"x\"\nlow = -10\nhigh = 10\n";
 
-fn wanted(prn: &Prn) -> Option<Want> {
-    match prn {
+static P1_PARTS: [Listed; 3] = [
+    ("tip", 0, Some(0), &[(0, 0)]),
+    ("nozzle", 0, None, &[(-2, -2), (2, -2), (2, 2), (-2, 2)]),
+    (
+        "gantry",
+        2,
+        None,
+        &[(-101, -10), (101, -10), (101, 10), (-101, 10)],
+    ),
+];
+
+fn wanted(refusal: Option<&Prn>) -> Option<Want<'_>> {
+    match refusal? {
         Prn::Toml => Some(Want::Toml),
         Prn::Missing(key, number) => Some(Want::Key(Cause::Missing, *key, *number)),
         Prn::Kind(key, number) => Some(Want::Key(Cause::Kind, *key, *number)),
@@ -594,22 +620,23 @@ fn wanted(prn: &Prn) -> Option<Want> {
         Prn::Range(key, number) => Some(Want::Key(Cause::Range, *key, *number)),
         Prn::OffGrain(key, number) => Some(Want::Key(Cause::OffGrain, *key, *number)),
         Prn::TooManyParts => Some(Want::TooManyParts),
-        Prn::Unknown(_, _) => None,
+        Prn::Unknown(text, number) => Some(Want::Unknown(text.as_str(), *number)),
         Prn::NoMemory => None,
     }
 }
 
-fn unknown(prn: &Prn) -> Option<(&str, u32)> {
-    match prn {
-        Prn::Unknown(text, number) => Some((text.as_str(), *number)),
-        _ => None,
-    }
+fn joined(alloc: Global, first: &str, rest: &[u8]) -> Result<Vec<u8>, AllocError> {
+    let mut text = Vec::from_slice(alloc, first.as_bytes())?;
+    text.extend_from_slice(rest)?;
+    Ok(text)
 }
 
-fn joined(alloc: Global, first: &str, rest: &str) -> Result<String, AllocError> {
-    let mut text = String::from_str(alloc, first)?;
-    text.push_str(rest)?;
-    Ok(text)
+fn read(alloc: Global, first: &str, rest: &str) -> Result<Printer, Fail> {
+    let text = joined(alloc, first, rest.as_bytes())?;
+    match read_printer(alloc, &text) {
+        Ok(printer) => Ok(printer),
+        Err(_) => Err("refused".into()),
+    }
 }
 
 fn has_corners(part: &Part, corners: &[(i64, i64)]) -> bool {
@@ -625,67 +652,112 @@ fn has_corners(part: &Part, corners: &[(i64, i64)]) -> bool {
     true
 }
 
+// Sees that a description is refused for this.
+fn see_refused(
+    rt: &impl Abort,
+    alloc: Global,
+    first: &str,
+    rest: &[u8],
+    want: Want,
+) -> Result<(), Fail> {
+    let text = joined(alloc, first, rest)?;
+    let refusal = read_printer(alloc, &text).err();
+    assert_eq!(rt; wanted(refusal.as_ref()), Some(want));
+    Ok(())
+}
+
+// Sees that a printer with no listed part has these sizes.
+fn see_sizes(
+    rt: &impl Abort,
+    alloc: Global,
+    first: &str,
+    rest: &str,
+    want: Sizes,
+) -> Result<(), Fail> {
+    let p = read(alloc, first, rest)?;
+    let sizes = (p.grain, p.width, p.depth, p.step, p.margin, p.grid);
+    assert_eq!(rt; (sizes, p.parts.len()), (want, 1));
+    Ok(())
+}
+
+// Sees that a printer has so many parts, and this one at its place.
+fn see_part(
+    rt: &impl Abort,
+    alloc: Global,
+    first: &str,
+    rest: &str,
+    count: usize,
+    place: usize,
+    want: Listed,
+) -> Result<(), Fail> {
+    let p = read(alloc, first, rest)?;
+    let Some(part) = p.parts.as_slice().get(place) else {
+        return Err("no such part".into());
+    };
+    let (name, lo, hi, corners) = want;
+    assert_eq!(rt;
+        (
+            p.parts.len(),
+            part.name.as_str(),
+            part.lo,
+            part.hi,
+            has_corners(part, corners)
+        ),
+        (count, name, lo, hi, true)
+    );
+    Ok(())
+}
+
 #[test]
 fn descriptions_are_refused_at_their_first_wrong_key(rt: HostRuntime) -> Result<(), Fail> {
-    let alloc = rt.alloc();
     for (first, rest, want) in &REFUSED {
-        match read_printer(alloc, joined(alloc, first, rest)?.as_bytes()) {
-            Ok(_) => assert_eq!(rt; *rest, "accepted"),
-            Err(prn) => assert_eq!(rt; wanted(&prn), Some(*want)),
-        }
-    }
-    for (first, rest, key, number) in &UNKNOWN {
-        match read_printer(alloc, joined(alloc, first, rest)?.as_bytes()) {
-            Ok(_) => assert_eq!(rt; *rest, "accepted"),
-            Err(prn) => assert_eq!(rt; unknown(&prn), Some((*key, *number))),
-        }
-    }
-    match read_printer(alloc, b"format = 1 #\xff".as_slice()) {
-        Ok(_) => return Err("not UTF-8".into()),
-        Err(prn) => assert_eq!(rt; wanted(&prn), Some(Want::Toml)),
+        see_refused(&rt, rt.alloc(), first, rest.as_bytes(), *want)?;
     }
     Ok(())
 }
 
 #[test]
-fn printers_are_read(rt: HostRuntime) -> Result<(), Fail> {
-    let alloc = rt.alloc();
-    for (first, rest, want) in &SIZES {
-        let Ok(p) = read_printer(alloc, joined(alloc, first, rest)?.as_bytes()) else {
-            return Err("sizes".into());
-        };
-        assert_eq!(rt;
-            (p.grain, p.width, p.depth, p.step, p.margin, p.grid),
-            *want
-        );
-        assert_eq!(rt; p.parts.len(), 1);
-        assert!(rt; has_corners(&p.parts.as_slice()[0], &[(0, 0)]));
+fn a_description_is_utf_8(rt: HostRuntime) -> Result<(), Fail> {
+    see_refused(&rt, rt.alloc(), "format = 1 #", b"\xff", Want::Toml)
+}
+
+#[test]
+fn printers_have_their_sizes(rt: HostRuntime) -> Result<(), Fail> {
+    for (first, rest, sizes) in &SIZES {
+        see_sizes(&rt, rt.alloc(), first, rest, *sizes)?;
     }
-    for (first, rest, lo, hi, corners) in &PARTS {
-        let Ok(p) = read_printer(alloc, joined(alloc, first, rest)?.as_bytes()) else {
-            return Err("parts".into());
-        };
-        assert_eq!(rt; p.parts.len(), 2);
-        let part = &p.parts.as_slice()[1];
-        assert_eq!(rt; part.name.as_str(), "a");
-        assert_eq!(rt; (part.lo, part.hi), (*lo, *hi));
-        assert!(rt; has_corners(part, corners));
-    }
-    let Ok(p) = read_printer(alloc, P1.as_bytes()) else {
-        return Err("P1".into());
-    };
-    let parts = p.parts.as_slice();
-    assert_eq!(rt; parts.len(), 3);
-    assert_eq!(rt; parts[0].name.as_str(), "tip");
-    assert_eq!(rt; (parts[0].lo, parts[0].hi), (0, Some(0)));
-    assert_eq!(rt; parts[1].name.as_str(), "nozzle");
-    assert_eq!(rt; (parts[1].lo, parts[1].hi), (0, None));
-    assert!(rt; has_corners(&parts[1], &[(-2, -2), (2, -2), (2, 2), (-2, 2)]));
-    assert_eq!(rt; parts[2].name.as_str(), "gantry");
-    assert_eq!(rt; (parts[2].lo, parts[2].hi), (2, None));
-    assert!(rt; has_corners(&parts[2], &[(-101, -10), (101, -10), (101, 10), (-101, 10)]));
-    assert_eq!(rt; key_text(Key::Corners), "corners");
     Ok(())
+}
+
+#[test]
+fn the_tip_is_the_first_part(rt: HostRuntime) -> Result<(), Fail> {
+    let tip: Listed = P1_PARTS[0];
+    for (first, rest, _) in &SIZES {
+        see_part(&rt, rt.alloc(), first, rest, 1, 0, tip)?;
+    }
+    Ok(())
+}
+
+#[test]
+fn a_listed_part_is_read(rt: HostRuntime) -> Result<(), Fail> {
+    for (first, rest, lo, hi, corners) in &PARTS {
+        let part = ("a", *lo, *hi, *corners);
+        see_part(&rt, rt.alloc(), first, rest, 2, 1, part)?;
+    }
+    Ok(())
+}
+
+#[test]
+fn a_printer_of_three_parts_is_read(rt: HostRuntime) -> Result<(), Fail> {
+    for (place, part) in P1_PARTS.iter().enumerate() {
+        see_part(&rt, rt.alloc(), P1, "", 3, place, *part)?;
+    }
+    Ok(())
+}
+
+#[test]
+fn a_key_has_its_text(rt: HostRuntime) {
+    assert_eq!(rt; key_text(Key::Corners), "corners");
 }
 
 // As many parts as there may be, all of this name.

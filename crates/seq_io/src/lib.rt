@@ -38,7 +38,22 @@ pub struct Failed;
 mod tests {
     use super::*;
     use std::alloc::Global;
+    use std::process::Abort;
     use std::test::Fail;
+
+    // A name, a limit, the calls of the shelf that fail, and what is read of a file `a.stl`.
+    static READ: [(&str, usize, &[u64], Result<&[u8], ReadAll>); 4] = [
+        ("a.stl", 5, &[], Ok(b"12345")),
+        ("a.stl", 4, &[], Err(ReadAll::TooLong)),
+        ("a.stl", 5, &[2], Err(ReadAll::ReadFault)),
+        ("b.stl", 5, &[], Err(ReadAll::ReadFault)),
+    ];
+
+    // The writes that fail, the answer to ten bytes, and those that were taken.
+    static WRITTEN: [(&[u64], Result<(), SinkFault>, &[u8]); 2] = [
+        (&[], Ok(()), b"0123456789"),
+        (&[1], Err(SinkFault), b"0123"),
+    ];
 
     fn one_file(alloc: Global, bytes: &[u8]) -> Result<Vec<MemFile>, Fail> {
         let name = String::from_str(alloc, "a.stl")?;
@@ -53,25 +68,55 @@ mod tests {
         Ok(MemShelf::new(one_file(alloc, bytes)?, 2, failing))
     }
 
+    fn bytes_of(read: &Result<Vec<u8>, ReadAll>) -> Result<&[u8], ReadAll> {
+        match read {
+            Ok(bytes) => Ok(bytes.as_slice()),
+            Err(error) => Err(*error),
+        }
+    }
+
+    fn see_read(
+        rt: &impl Abort,
+        alloc: Global,
+        name: &str,
+        limit: usize,
+        failing: &[u64],
+        wanted: Result<&[u8], ReadAll>,
+    ) -> Result<(), Fail> {
+        let name = String::from_str(alloc, name)?;
+        let mut shelf = shelf_of(alloc, b"12345", failing)?;
+        let read = read_all(alloc, &mut shelf, name, limit);
+        assert!(rt; bytes_of(&read) == wanted);
+        Ok(())
+    }
+
+    fn see_written(
+        rt: &impl Abort,
+        alloc: Global,
+        failing: &[u64],
+        answer: Result<(), SinkFault>,
+        taken: &[u8],
+    ) -> Result<(), Fail> {
+        let mut sink = MemSink::new(alloc, 20, 4, Vec::from_slice(alloc, failing)?)?;
+        let written = write_all(&mut sink, b"0123456789");
+        assert_eq!(rt; (written, sink.taken()), (answer, taken));
+        Ok(())
+    }
+
     #[test]
     fn files_are_read_up_to_their_limit(rt: HostRuntime) -> Result<(), Fail> {
-        let alloc = rt.alloc();
-        let cases = [
-            ("a.stl", 5, [].as_slice(), Ok(b"12345".as_slice())),
-            ("a.stl", 4, &[], Err(ReadAll::TooLong)),
-            ("a.stl", 5, &[2], Err(ReadAll::ReadFault)),
-            ("b.stl", 5, &[], Err(ReadAll::ReadFault)),
-        ];
-        for (name, limit, failing, wanted) in cases {
-            let mut shelf = shelf_of(alloc, b"12345", failing)?;
-            match read_all(alloc, &mut shelf, String::from_str(alloc, name)?, limit) {
-                Ok(bytes) => assert!(rt; wanted == Ok(bytes.as_slice())),
-                Err(error) => assert!(rt; wanted == Err(error)),
-            }
+        for (name, limit, failing, wanted) in &READ {
+            see_read(&rt, rt.alloc(), name, *limit, failing, *wanted)?;
         }
-        let mut shelf = SureShelf::new(one_file(alloc, b"")?);
-        let empty = read_all(alloc, &mut shelf, String::from_str(alloc, "a.stl")?, 0)?;
-        assert_eq!(rt; empty.len(), 0);
+        Ok(())
+    }
+
+    #[test]
+    fn an_empty_file_is_read(rt: HostRuntime) -> Result<(), Fail> {
+        let name = String::from_str(rt.alloc(), "a.stl")?;
+        let mut shelf = SureShelf::new(one_file(rt.alloc(), b"")?);
+        let read = read_all(rt.alloc(), &mut shelf, name, 0);
+        assert!(rt; bytes_of(&read) == Ok(b"".as_slice()));
         Ok(())
     }
 
@@ -90,16 +135,17 @@ mod tests {
 
     #[test]
     fn sinks_take_pieces(rt: HostRuntime) -> Result<(), Fail> {
-        let alloc = rt.alloc();
-        let mut sink = MemSink::new(alloc, 20, 4, Vec::new(alloc))?;
-        write_all(&mut sink, b"0123456789")?;
-        assert_eq!(rt; sink.taken(), b"0123456789".as_slice());
-        let mut failing = MemSink::new(alloc, 20, 4, Vec::from_slice(alloc, &[1])?)?;
-        assert_eq!(rt; write_all(&mut failing, b"0123456789"), Err(SinkFault));
-        assert_eq!(rt; failing.taken(), b"0123".as_slice());
-        let mut sure = SureSink::new(alloc, 20)?;
-        write_all(&mut sure, b"abc")?;
-        assert_eq!(rt; sure.taken(), Some(b"abc".as_slice()));
+        for (failing, answer, taken) in &WRITTEN {
+            see_written(&rt, rt.alloc(), failing, *answer, taken)?;
+        }
+        Ok(())
+    }
+
+    #[test]
+    fn a_sure_sink_takes_all(rt: HostRuntime) -> Result<(), Fail> {
+        let mut sink = SureSink::new(rt.alloc(), 20)?;
+        let written = write_all(&mut sink, b"abc");
+        assert_eq!(rt; (written, sink.taken()), (Ok(()), Some(b"abc".as_slice())));
         Ok(())
     }
 }

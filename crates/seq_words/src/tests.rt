@@ -1,6 +1,7 @@
 use crate::{Command, Opt, Words, read};
 use owned_lists::{Items, Text};
 use std::alloc::Global;
+use std::process::Abort;
 use std::test::Fail;
 
 const SIXTEEN: &str = "1 2 3 4 5 6 7 8 9 10 11 12 13 14 15 16";
@@ -177,39 +178,63 @@ static REFUSED: [(&str, Words); 32] = [
     ("trial -- 1 -1", Words::BadNumber(Opt::N)),
 ];
 
-#[test]
-fn commands_are_read_as_the_words_spell_them(rt: HostRuntime) -> Result<(), Fail> {
-    let alloc = rt.alloc();
-    for (line, want) in &ACCEPTED {
-        let words = words_of(alloc, line)?;
-        let Ok(command) = read(alloc, words.as_slice()) else {
-            return Err("refused".into());
-        };
-        let line = told(alloc, &command)?;
-        assert_eq!(rt; line.as_str(), *want);
-    }
-    let words = words_of(alloc, format!(in alloc; "check p q {SIXTEEN}")?.as_str())?;
-    assert!(rt; read(alloc, words.as_slice()).is_ok());
+// Words that sixteen meshes and one more follow, and why they are refused.
+static SEVENTEEN: [(&str, Words); 4] = [
+    ("arrange p.toml", Words::TooMany),
+    ("arrange --budget 0 p.toml", Words::BadNumber(Opt::Budget)),
+    ("check p.toml plan", Words::TooMany),
+    ("audit p.toml plan", Words::TooMany),
+];
+
+fn see_told(rt: &impl Abort, alloc: Global, line: &str, want: &str) -> Result<(), Fail> {
+    let words = words_of(alloc, line)?;
+    let Ok(command) = read(alloc, &words) else {
+        return Err("refused".into());
+    };
+    let text = told(alloc, &command)?;
+    assert_eq!(rt; text.as_str(), want);
+    Ok(())
+}
+
+fn see_refused(rt: &impl Abort, alloc: Global, line: &str, want: Words) -> Result<(), Fail> {
+    let words = words_of(alloc, line)?;
+    assert_eq!(rt; read(alloc, &words).err(), Some(want));
     Ok(())
 }
 
 #[test]
-fn words_are_refused_with_their_cause(rt: HostRuntime) -> Result<(), Fail> {
-    let alloc = rt.alloc();
-    let none: Vec<String> = Vec::new(alloc);
-    assert!(rt; matches!(read(alloc, none.as_slice()), Err(Words::Unknown)));
-    for (line, want) in &REFUSED {
-        let words = words_of(alloc, line)?;
-        assert_eq!(rt; read(alloc, words.as_slice()).err(), Some(*want));
+fn commands_are_read_as_the_words_spell_them(rt: HostRuntime) -> Result<(), Fail> {
+    for (line, want) in &ACCEPTED {
+        see_told(&rt, rt.alloc(), line, want)?;
     }
-    for (head, want) in [
-        ("arrange p.toml", Words::TooMany),
-        ("arrange --budget 0 p.toml", Words::BadNumber(Opt::Budget)),
-        ("check p.toml plan", Words::TooMany),
-        ("audit p.toml plan", Words::TooMany),
-    ] {
-        let words = words_of(alloc, format!(in alloc; "{head} {SIXTEEN} 17")?.as_str())?;
-        assert_eq!(rt; read(alloc, words.as_slice()).err(), Some(want));
+    Ok(())
+}
+
+#[test]
+fn sixteen_meshes_are_taken(rt: HostRuntime) -> Result<(), Fail> {
+    let line = format!(in rt.alloc(); "check p q {SIXTEEN}")?;
+    see_told(&rt, rt.alloc(), &line, &line)
+}
+
+#[test]
+fn no_words_are_no_command(rt: HostRuntime) {
+    let none: Vec<String> = Vec::new(rt.alloc());
+    assert_eq!(rt; read(rt.alloc(), &none).err(), Some(Words::Unknown));
+}
+
+#[test]
+fn words_are_refused_with_their_cause(rt: HostRuntime) -> Result<(), Fail> {
+    for (line, want) in &REFUSED {
+        see_refused(&rt, rt.alloc(), line, *want)?;
+    }
+    Ok(())
+}
+
+#[test]
+fn a_seventeenth_mesh_is_refused(rt: HostRuntime) -> Result<(), Fail> {
+    for (head, want) in &SEVENTEEN {
+        let line = format!(in rt.alloc(); "{head} {SIXTEEN} 17")?;
+        see_refused(&rt, rt.alloc(), &line, *want)?;
     }
     Ok(())
 }
