@@ -1,5 +1,5 @@
 -- The root of a search of two cubes, which is spent with one node, and how many nodes a spent tree has.
-use Rattle.std.proofs.Common.{◌≡◌, ℕ, List, [], ◌∷◌, length, refl, arith, pos, ◌≤◌, ◌≤ℤ◌, lit<, lit≤, inl}
+use Rattle.std.proofs.Common.{◌≡◌, List, [], ◌∷◌, length, refl, arith, pos, ◌≤◌, ◌≤ℤ◌, lit<, lit≤, inl}
 use lib.Signed.{le_z_yes}
 use Rattle.model_examples.specs.Certificates.{four_sides}
 use Rattle.model_examples.specs.Cubes.{at, cube, nozzle, first_contact}
@@ -8,7 +8,6 @@ use Rattle.model_examples.specs.Jobs.{two_cubes, nozzle_part}
 use Rattle.model_examples.proofs.FullLaws.{four_are_most, most_is_four}
 use Rattle.model_examples.proofs.SideLaws.{cube_sides}
 use Rattle.model_examples.proofs.TreeLaws.{is_first}
-use Rattle.seq_model.specs.Budgets.{IsMostSides}
 use Rattle.seq_model.specs.Outlines.{Inner}
 use Rattle.seq_model.specs.Scenes.{Overlap}
 use Rattle.seq_model.specs.Splits.{Values, IsOn, CollidesAt, ContactCollidesAt, Earned, SpentTree}
@@ -53,13 +52,13 @@ root_is_earned = (
   record { at = at_zero; on = on_path; here = inl (one_way, other_way) },
 )
 
-pub spent : (s : ℕ) → IsMostSides two_cubes s → SpentTree two_cubes 100 1 (Nodes.Pending ∷ [])
-spent s most = record {
-  s = s;
-  most = most;
+pub spent : SpentTree two_cubes 100 1 (Nodes.Pending ∷ [])
+spent = record {
+  s = 4;
+  most = four_are_most;
   tree = record { tree = ((tt, tt), [], refl, refl); pending = (0, lit< tt, refl) };
   spent = lit≤ tt;
-  just = (let three = most.at_least in omega (arith, three));
+  just = lit< tt;
   leaf = 0;
   leaf_is = refl;
   path = [];

@@ -1,7 +1,7 @@
 -- A job in which nothing is symmetric: no two numbers of the plate, of the objects or of the part may be taken for each other.
 --
 --   box west south east north   the corners of a rectangle
---   shoe                        a part to the east and south of the tip, at every band
+--   shoe                        a part around the tip, farther to its east and south, at every band
 --   uneven_printer              the tip and the shoe, over a plate of 100 by 60 with a grid of 100
 --   brick                       an object of two bands, from (-3, -1) to (7, 4)
 --   house                       an object of four bands: a rectangle from (-1, -2) to (15, 9), and a roof above it, up to y = 10

@@ -11,8 +11,8 @@ ghost use Rattle.model_examples.specs.Cubes.{at, half, spot, slanted};
 ghost use Rattle.model_examples.specs.Plans.{halves};
 ghost use Rattle.model_examples.specs.Uneven.{uneven, uneven_files, walls, brick_zone, shoe_corners};
 
-/// The scene of the files has the spots of each band by the printer's grain and margin, and the plate as it is wide and deep. So has
-/// the scene of a job.
+/// The scene of the files has the spots of each band by the printer's grain and margin, and the plate as it is wide and deep. The
+/// plate of a job's scene is so too.
 pub fn scenes_of_a_wide_plate()
     ensures spots { (uneven_files (slanted ∷ [])).spots 0 1 ≡ spots (pos 1_000) (pos 1) (corners (slanted ∷ []) (pos 10_000) 1) }
     ensures width { (uneven_files (slanted ∷ [])).width ≡ pos 100 }
@@ -21,7 +21,7 @@ pub fn scenes_of_a_wide_plate()
     ensures depth_of_job { (scene_of_job uneven).depth ≡ pos 60 }
 {}
 
-/// The region of extent 46 is 46 wide and 27 deep, from (27, 16). At the place (56/2, 36/2) the spot (-1, -2) lies on its low corner, and
+/// A place 3, 5 over scale 2 is the point (3/2, 5/2). The region of extent 46 is 46 wide and 27 deep, from (27, 16). At the place (56/2, 36/2) the spot (-1, -2) lies on its low corner, and
 /// half a grain to the west or the south it doesn't lie in it; at (132/2, 78/2) the spot (7, 4) lies on its high corner, and half a
 /// grain to the east or the north it doesn't.
 pub fn spots_on_the_corners_of_a_region()
@@ -35,8 +35,8 @@ pub fn spots_on_the_corners_of_a_region()
 {}
 
 /// The walls of the house stand at (10, 20), up to (25, 29), and are printed first. The brick with the shoe around it reaches from (-4, -4)
-/// to the east and the north of its place. So at (57/2, 65/2) it meets the walls, and from 29 to the east on, or from 33 to the
-/// north on, it doesn't.
+/// to the east and the north of its place. So at (57/2, 65/2) it meets the walls, and at (29, 32), to the east, and at (28, 33), to
+/// the north, it doesn't.
 pub fn a_brick_beside_the_walls()
     ensures meets { Overlap walls.corners brick_zone.corners shoe_corners (at (pos 10) (pos 20)) (half (pos 57) (pos 65)) }
     ensures east { Overlap walls.corners brick_zone.corners shoe_corners (at (pos 10) (pos 20)) (at (pos 29) (pos 32)) → ⊥ }

@@ -19,7 +19,8 @@ pub fn beyond_the_side_to_the_east()
     ensures at_47_2 { Beyond (points_of two_cubes first_contact) east (half (pos 47) (pos 0)) → ⊥ }
 {}
 
-/// Those of two wedges are just six: (1, 0), (1, 1), (0, 1), (-1, 0), (-1, -1) and (0, -1), and no fewer.
+/// Those of two wedges are just six: (1, 0), (1, 1), (0, 1), (-1, 0), (-1, -1) and (0, -1), and no fewer. The
+/// greatest values are 24, and 28 along (1, 1) and (-1, -1).
 pub fn sides_of_two_wedges()
     ensures sides { AreSides (points_of two_wedges first_contact) six_sides }
     ensures all { AreSides (points_of two_wedges first_contact) five_sides → ⊥ }

@@ -1,7 +1,6 @@
-//! Places, plans, and what a search may do first.
+//! Valid plans, forced orders, and which splits may be made.
 
 ghost use Rattle.std.specs.Prelude.{◌≡◌, ℕ, List, [], ◌∷◌, pos, length};
-ghost use Rattle.seq_model.specs.Budgets.{IsMostSides};
 ghost use Rattle.seq_model.specs.Jobs.{scene_of_job};
 ghost use Rattle.seq_model.specs.Scenes.{Valid};
 ghost use Rattle.seq_model.specs.Splits.{AreNeighbours, CouldSplit, Earned, Grounded, IsForced, OpenTree, SpentTree};
@@ -23,10 +22,10 @@ pub fn two_cubes_fit_46()
 {}
 
 /// A search of two cubes may begin with their order, since where both stand in one place they collide both ways. With a budget of one
-/// node it has spent it at the pending root, whatever the greatest number of sides.
+/// node it has spent it at the pending root.
 pub fn one_node_is_soon_spent()
     ensures earned { Earned two_cubes 100 [] (Nodes.Order 0 1) }
-    ensures spent { (s : ℕ) → IsMostSides two_cubes s → SpentTree two_cubes 100 1 (Nodes.Pending ∷ []) }
+    ensures spent { SpentTree two_cubes 100 1 (Nodes.Pending ∷ []) }
 {}
 
 /// A low cube and a tall one 25 grains to the east of it are a valid plan when the low one is printed first. In the other order the
@@ -36,7 +35,8 @@ pub fn a_plan_by_its_order()
     ensures tall_first { Valid (scene_of_job tall_and_low) 100 tall_then_low → ⊥ }
 {}
 
-/// A spent tree has at least as many nodes as its budget, and fewer than that and the number of sides: of two cubes at most three more.
+/// A spent tree has at least as many nodes as its budget, and fewer than the budget and the greatest number of sides
+/// together: of two cubes at most three more.
 pub fn a_tree_is_spent_by_its_length()
     ensures three_over { SpentTree two_cubes 100 0 (Nodes.Order 0 1 ∷ Nodes.Pending ∷ Nodes.Pending ∷ []) }
     ensures four_over { (nodes : List Node) → length nodes ≡ 4 → SpentTree two_cubes 100 0 nodes → ⊥ }
@@ -51,14 +51,14 @@ pub fn the_low_cube_is_forced_first()
 {}
 
 /// A split has a cause at a point of its own path. An order that is chosen isn't split again, and where no point meets the rows of a path,
-/// as at extent 45 where the second cube stands to the east of the first, no contact collides.
+/// as at extent 45 where the second cube stands to the east of the first, no split of their contact is grounded.
 pub fn splits_without_a_cause()
     ensures ordered { Grounded two_cubes 100 (before 0 1 ∷ []) (Nodes.Order 0 1) → ⊥ }
     ensures nowhere { Grounded two_cubes 45 path_to_the_east (Nodes.Side first_contact 4) → ⊥ }
 {}
 
-/// Extent 21 has no room for a cube, so that no split of two cubes is earned there, and no tree of them that has one is open. One object
-/// has nothing to split.
+/// Extent 21 has no room for a cube, so that no split of two cubes is earned there at the empty path, and the tree that splits their order
+/// isn't open. One object has nothing to split at the empty path.
 pub fn nothing_to_split()
     ensures no_room { CouldSplit two_cubes 21 [] → ⊥ }
     ensures not_open { OpenTree two_cubes 21 (Nodes.Order 0 1 ∷ Nodes.Pending ∷ Nodes.Pending ∷ []) → ⊥ }

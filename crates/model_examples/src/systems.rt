@@ -1,4 +1,4 @@
-//! Systems, contradictions, and how many nodes are enough.
+//! Systems, contradictions, and the number of nodes that is meant to be enough.
 
 ghost use Rattle.std.specs.Prelude.{◌≡◌, ◌↔◌, ℕ, [], ◌∷◌, pos, negsuc};
 ghost use Rattle.seq_model.specs.Budgets.{IsMostSides, Full};
@@ -27,25 +27,25 @@ pub fn bounds_on_a_narrow_plate()
 {}
 
 /// No contact of two cubes has more than four sides, and one has four. So their number of nodes is 64, and no other.
-pub fn nodes_enough_for_two_cubes()
+pub fn number_of_nodes_of_two_cubes()
     ensures most_sides { (s : ℕ) → IsMostSides two_cubes s ↔ (s ≡ 4) }
     ensures full { (n : ℕ) → Full two_cubes n ↔ (n ≡ 64) }
 {}
 
 /// No contact of two wedges has more than six sides, and one has six. So their number of nodes is 144, and no other.
-pub fn nodes_enough_for_two_wedges()
+pub fn number_of_nodes_of_two_wedges()
     ensures most_sides { (s : ℕ) → IsMostSides two_wedges s ↔ (s ≡ 6) }
     ensures full { (n : ℕ) → Full two_wedges n ↔ (n ≡ 144) }
 {}
 
 /// Three cubes have contacts of four sides too, but three pairs. So their number of nodes is 65,536, and no other.
-pub fn nodes_enough_for_three_cubes()
+pub fn number_of_nodes_of_three_cubes()
     ensures most_sides { (s : ℕ) → IsMostSides three_cubes s ↔ (s ≡ 4) }
     ensures full { (n : ℕ) → Full three_cubes n ↔ (n ≡ 65_536) }
 {}
 
 /// One object has no contact, so the number of sides that counts is 3. Its number of nodes is 2.
-pub fn nodes_enough_for_one_cube()
+pub fn number_of_nodes_of_one_cube()
     ensures most_sides { (s : ℕ) → IsMostSides cube_on_a_narrow_plate s ↔ (s ≡ 3) }
     ensures full { (n : ℕ) → Full cube_on_a_narrow_plate n ↔ (n ≡ 2) }
 {}

@@ -8,15 +8,15 @@ ghost use Rattle.model_examples.specs.Certificates.{tree, bound, before, beyond,
 ghost use Rattle.model_examples.specs.Cubes.{east, northeast};
 ghost use Rattle.model_examples.specs.Jobs.{two_cubes, three_cubes, tall_and_low};
 
-/// Two cubes don't fit extent 45: whichever comes first, on each side of the other two rows contradict each other. Without row 2
-/// the first of these leaves contradicts nothing, and the tree refutes nothing.
+/// A tree of 11 nodes refutes extent 45 for two cubes: whichever comes first, on each side of the other two rows contradict each other.
+/// Without row 2 the first of these leaves contradicts nothing, and the tree doesn't refute the extent.
 pub fn two_cubes_dont_fit_45()
     ensures refutes { Refutes two_cubes 45 [] (tree (bound 2 1 4 1)) }
     ensures without_row_2 { Refutes two_cubes 45 [] (tree (bound 2 0 4 1)) → ⊥ }
 {}
 
 /// A cycle runs along orders of the path: 0 before 1 and 1 before 0 are one, and 0 before 1 alone is none. It runs along them in their
-/// direction, the last object comes before the first, and one object is no cycle.
+/// direction, the last object comes before the first, and one object, or none, is no cycle.
 pub fn cycles_of_a_path()
     ensures two { Refutes two_cubes 100 (before 0 1 ∷ before 1 0 ∷ []) (Nodes.Cycle (0 ∷ 1 ∷ []) ∷ []) }
     ensures one_way { Refutes two_cubes 100 (before 0 1 ∷ []) (Nodes.Cycle (0 ∷ 1 ∷ []) ∷ []) → ⊥ }
@@ -29,7 +29,7 @@ pub fn cycles_of_a_path()
 
 /// The second of two cubes may be put to the east of the first once the first is printed before it: not without this order, not before it
 /// is chosen, and not beyond a direction that is no side of the two. Nor is there a side by the gantry of a low cube, printed first, and a
-/// tall one: the gantry doesn't reach it.
+/// tall one: the gantry doesn't reach down to the low one.
 pub fn a_side_follows_its_order()
     ensures follows { IsPath two_cubes (before 0 1 ∷ beyond east ∷ []) }
     ensures alone { IsPath two_cubes (beyond east ∷ []) → ⊥ }

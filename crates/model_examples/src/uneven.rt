@@ -19,14 +19,14 @@ pub fn system_of_a_brick_and_a_house()
     ensures rows { system uneven 46 slope_then_west ≡ uneven_rows }
 {}
 
-/// At u = (3/2, 2) and (30, 31/2) the low corners of the two are so far from the region's; the origins are farther by what each reaches
-/// below its own.
+/// At u = (3/2, 2) and (30, 31/2) the low corners of the two are so far from the region's. So the places are (63/2, 19) and (58, 67/2):
+/// 27 + 3 and 16 + 1 more for the brick, 27 + 1 and 16 + 2 more for the house.
 pub fn places_of_a_brick_and_a_house()
     ensures brick { place_of uneven 46 (pos 2) (pos 3 ∷ pos 4 ∷ pos 60 ∷ pos 31 ∷ []) 0 ≡ half (pos 63) (pos 38) }
     ensures house { place_of uneven 46 (pos 2) (pos 3 ∷ pos 4 ∷ pos 60 ∷ pos 31 ∷ []) 1 ≡ half (pos 116) (pos 67) }
 {}
 
-/// The difference of the roof, the brick and the shoe: (2, 1) less (-3, -1) less each corner of the shoe, and then (2, 1) less (7, -1)
+/// The first five points of the difference of the roof, the brick and the shoe: (2, 1) less (-3, -1) less each corner of the shoe, and then (2, 1) less (7, -1)
 /// less the first. Its greatest values along five directions are those of the roof, less the least ones of the brick and of the shoe.
 pub fn points_of_a_roof_a_brick_and_a_shoe()
     ensures points { take 5 (points_of uneven roof_by_the_shoe)
@@ -35,8 +35,9 @@ pub fn points_of_a_roof_a_brick_and_a_shoe()
         ≡ pos 169 ∷ pos 16 ∷ pos 14 ∷ pos 10 ∷ pos 5 ∷ [] }
 {}
 
-/// The walls of the house, printed first, meet the brick by the tip and by the shoe, and its roof by the shoe alone; the other way
-/// round neither reaches the roof. Of each pair the fuller order counts: of these the later one first, of a tall and a low cube the first.
+/// The walls of the house, printed first, meet the brick by the tip and by the shoe, and its roof by the shoe alone. With the brick first
+/// its walls alone meet it, by both parts: while the roof is printed, neither part reaches down to the brick. The fuller order counts: the
+/// house first, and of a tall and a low cube the tall one. With 5 and 4 put in for the sides the numbers are 4 * 5^3 and 4 * 4^3.
 pub fn contacts_of_the_fuller_order()
     ensures brick_first { contact_count uneven 0 1 ≡ 2 }
     ensures house_first { contact_count uneven 1 0 ≡ 3 }

@@ -26,8 +26,8 @@ pub fn a_walk_ends_before_a_wide_row()
     ensures walk { WalkWide 2 wide_rows (0 ∷ 3 ∷ []) 3 }
 {}
 
-/// Of the rows `-1 + 2^62 u >= 0` and `1 >= 0` the walk ends before the basis 0, 2, whose denominator 2^62 makes it wide at both rows. The
-/// least of them is named.
+/// Of the rows `-1 + 2^62 u >= 0` and `1 >= 0` the walk ends before the basis 0, 2, whose denominator 2^62 makes it wide at both of its
+/// variables, 0 and 2. The lesser, 0, is named.
 pub fn the_least_wide_row_is_named()
     ensures first { WideAt 1 two_wide_rows (0 ∷ 2 ∷ []) 0 }
     ensures second { WideAt 1 two_wide_rows (0 ∷ 2 ∷ []) 2 }

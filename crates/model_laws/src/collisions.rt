@@ -7,7 +7,7 @@ ghost use Rattle.seq_model.specs.declared.job.Job.{Job};
 ghost use Rattle.seq_model.specs.declared.tree.Contact.{Contact};
 ghost use Rattle.model_laws.specs.Collisions.{ByBands, ByContact};
 
-/// Two objects collide at a point just where a contact of theirs does, the earlier object being the contact's.
+/// Two objects collide at a point just where a contact of theirs does, the earlier object being the contact's earlier one.
 pub fn objects_collide_by_a_contact()
     ensures if_a_contact_does { (job : Job) (e : ℕ) (at : Values) (c : Contact) → ContactCollidesAt job e at c → CollidesAt job e at c.i c.j }
     ensures only_then { (job : Job) (e : ℕ) (at : Values) (i j : ℕ) → i ≢ j → CollidesAt job e at i j → ByContact job e at i j }

@@ -13,9 +13,10 @@ ghost use Rattle.seq_model.specs.declared.tree.Node.TheVariants as Nodes;
 ghost use Rattle.model_laws.specs.Roots.{OrderRefutes, SideRefutes};
 
 /// When a tree refutes a path, by the kind of its root. A bound's multipliers contradict the path's system, and a cycle's objects
-/// run along orders of the path; neither has anything below it. An order's first child refutes the path with i before j, and its
-/// second one the path with j before i. A side's contact exists, its order is on the path, it has a child for each of its sides,
-/// and child number k refutes the path with side number k. What is pending refutes nothing.
+/// run along orders of the path; neither has anything below it. An order is of two objects i < j of the job; its first child refutes
+/// the path with i before j, and its second one the path with j before i. A side's contact exists, its order is on the path, it has a
+/// child for each of its sides, and child number k refutes the path with side number k. What is pending refutes nothing, nor does a
+/// list without nodes.
 pub fn a_tree_refutes_by_its_root()
     ensures bound { (job : Job) (e : ℕ) (path : List Choice) (mults : List Mult) (below : List Node)
         → Refutes job e path (Nodes.Bound mults ∷ below) ↔ ((below ≡ []) × Contradiction (system job e path) mults) }
