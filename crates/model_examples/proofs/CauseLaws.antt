@@ -1,5 +1,6 @@
 -- Causes of splits, and splits that have none.
-use Rattle.std.proofs.Common.{◌≡◌, ◌<◌, List, [], ◌∷◌, length, refl, ap, arith, lit<, lit≤, inl, inr}
+use Rattle.std.proofs.Common.{◌≡◌, ℕ, ◌<◌, List, [], ◌∷◌, length, refl, ap, arith, lit<, lit≤, inl, inr, zero, suc, ◌⊎◌}
+use Rattle.integer_laws.specs.Members.{In-from_contains}
 use Rattle.model_laws.specs.Farkas.{no_point}
 use Rattle.model_examples.specs.Certificates.{before}
 use Rattle.model_examples.specs.Cubes.{first_contact}
@@ -8,9 +9,9 @@ use Rattle.model_examples.specs.Jobs.{two_cubes, tall_and_low, cube_on_a_narrow_
 use Rattle.model_examples.specs.Plans.{tall_to_the_east}
 use Rattle.model_examples.specs.Rows.{path_to_the_east, times}
 use Rattle.model_examples.proofs.OrderLaws.{run_into, apart}
-use Rattle.seq_model.specs.Splits.{Values, IsOn, IsForced, AreNeighbours, Earned, Grounded, CouldSplit, OpenTree}
+use Rattle.seq_model.specs.Splits.{Values, IsOn, Somewhere, CollidesAt, IsForced, Precedes, AreNeighbours, Earned, Grounded, CouldSplit, OpenTree}
 use Rattle.seq_model.specs.Systems.{system}
-use Rattle.seq_model.specs.Trees.{AreChildren, IsSoundNode}
+use Rattle.seq_model.specs.Trees.{IsCycle, AreChildren, IsSoundNode}
 use Rattle.seq_model.specs.declared.tree.Choice.{Choice}
 use Rattle.seq_model.specs.declared.tree.Node.{Node}
 use Rattle.seq_model.specs.declared.tree.Node.TheVariants as Nodes
@@ -56,3 +57,42 @@ alone c = by c.node c.children c.sound
     by (Nodes.Bound mults) k s = some_child c.first c.others k
     by (Nodes.Cycle objects) k s = some_child c.first c.others k
     by Nodes.Pending k s = some_child c.first c.others k
+
+-- ---- two cubes alone
+-- only 0 and 1 are cubes, and none is forced before itself
+forced_on : (e : ℕ) (at : Values) (a k : ℕ) → Precedes two_cubes e [] at a k → IsForced two_cubes e at a k
+forced_on e at a k (inl on) = absurd (In-from_contains [] (before a k) on)
+forced_on e at a k (inr f) = f
+
+not_round : (e : ℕ) (at : Values) → CollidesAt two_cubes e at 1 0 × (CollidesAt two_cubes e at 0 1 → ⊥) → (k : ℕ) → IsForced two_cubes e at 1 k → ⊥
+not_round e at first zero next = first.1 next.0
+not_round e at first (suc zero) next = next.1 next.0
+not_round e at first (suc (suc k)) next = let band : next.0.c < 0 = next.0.band_of_earlier in absurd (omega (arith, band))
+
+not_back : (e : ℕ) (at : Values) → CollidesAt two_cubes e at 0 1 × (CollidesAt two_cubes e at 1 0 → ⊥) → (k : ℕ) → IsForced two_cubes e at 0 k → ⊥
+not_back e at first zero next = next.1 next.0
+not_back e at first (suc zero) next = first.1 next.0
+not_back e at first (suc (suc k)) next = let band : next.0.c < 0 = next.0.band_of_earlier in absurd (omega (arith, band))
+
+no_ring : (e : ℕ) (at : Values) → AreNeighbours two_cubes e [] at 0 1 → ⊥
+no_ring e at t = by t.0 t.1
+  where
+    by : (others : List ℕ) → IsCycle (Precedes two_cubes e [] at) (0 ∷ 1 ∷ others) → ⊥
+    by [] c = not_round e at (forced_on e at 0 1 c.1.0) 0 (forced_on e at 1 0 c.1.1.0)
+    by (k ∷ more) c = not_round e at (forced_on e at 0 1 c.1.0) k (forced_on e at 1 k c.1.1.0)
+
+no_ring_back : (e : ℕ) (at : Values) → AreNeighbours two_cubes e [] at 1 0 → ⊥
+no_ring_back e at t = by t.0 t.1
+  where
+    by : (others : List ℕ) → IsCycle (Precedes two_cubes e [] at) (1 ∷ 0 ∷ others) → ⊥
+    by [] c = not_back e at (forced_on e at 1 0 c.1.0) 1 (forced_on e at 0 1 c.1.1.0)
+    by (k ∷ more) c = not_back e at (forced_on e at 1 0 c.1.0) k (forced_on e at 0 k c.1.1.0)
+
+pub both_ways : (e : ℕ) → Earned two_cubes e [] (Nodes.Order 0 1) → Somewhere two_cubes e [] (λ at. CollidesAt two_cubes e at 0 1 × CollidesAt two_cubes e at 1 0)
+both_ways e earned = record { at = earned.1.at; on = earned.1.on; here = by earned.1.here }
+  where
+    by : (CollidesAt two_cubes e earned.1.at 0 1 × CollidesAt two_cubes e earned.1.at 1 0) ⊎ (AreNeighbours two_cubes e [] earned.1.at 0 1 ⊎ AreNeighbours two_cubes e [] earned.1.at 1 0)
+        → CollidesAt two_cubes e earned.1.at 0 1 × CollidesAt two_cubes e earned.1.at 1 0
+    by (inl both) = both
+    by (inr (inl t)) = absurd (no_ring e earned.1.at t)
+    by (inr (inr t)) = absurd (no_ring_back e earned.1.at t)

@@ -118,5 +118,17 @@ tree_refutes_nothing r =
     first_leaf side.2.0 ((Choices.Before 1 0 ∷ []) ∷ []) side.1 (drop 3 (tree (bound 2 0 4 1))) side.2.1 side.2.2 side.2.3 side.3
 
 -- ---- no contact
-pub no_zone : Refutes two_cubes 100 (before 0 1 ∷ []) (Nodes.Side (record { i = 0; zi = 7; part = 1; zj = 0; j = 1 }) 0 ∷ []) → ⊥
-no_zone r = (let h : 7 < 1 = r.0.0.0.zi_in in absurd (omega (arith, h)))
+pub no_zone_of_earlier : Refutes two_cubes 100 (before 0 1 ∷ []) (Nodes.Side (record { i = 0; zi = 7; part = 1; zj = 0; j = 1 }) 0 ∷ []) → ⊥
+no_zone_of_earlier r = (let h : 7 < 1 = r.0.0.0.zi_in in absurd (omega (arith, h)))
+
+pub no_zone_of_later : Refutes two_cubes 100 (before 0 1 ∷ []) (Nodes.Side (record { i = 0; zi = 0; part = 1; zj = 7; j = 1 }) 0 ∷ []) → ⊥
+no_zone_of_later r = (let h : 7 < 1 = r.0.0.0.zj_in in absurd (omega (arith, h)))
+
+pub no_part : Refutes two_cubes 100 (before 0 1 ∷ []) (Nodes.Side (record { i = 0; zi = 0; part = 7; zj = 0; j = 1 }) 0 ∷ []) → ⊥
+no_part r = (let h : 7 < 3 = r.0.0.0.part_in in absurd (omega (arith, h)))
+
+pub no_earlier : Refutes two_cubes 100 (before 7 1 ∷ []) (Nodes.Side (record { i = 7; zi = 0; part = 1; zj = 0; j = 1 }) 0 ∷ []) → ⊥
+no_earlier r = (let h : 7 < 2 = r.0.0.0.i_in in absurd (omega (arith, h)))
+
+pub no_later : Refutes two_cubes 100 (before 0 7 ∷ []) (Nodes.Side (record { i = 0; zi = 0; part = 1; zj = 0; j = 7 }) 0 ∷ []) → ⊥
+no_later r = (let h : 7 < 2 = r.0.0.0.j_in in absurd (omega (arith, h)))

@@ -3,7 +3,7 @@
 ghost use Rattle.std.specs.Prelude.{◌≡◌, ℕ, List, [], ◌∷◌, pos, length};
 ghost use Rattle.seq_model.specs.Jobs.{scene_of_job};
 ghost use Rattle.seq_model.specs.Scenes.{Valid};
-ghost use Rattle.seq_model.specs.Splits.{AreNeighbours, CouldSplit, Earned, Grounded, IsForced, OpenTree, SpentTree};
+ghost use Rattle.seq_model.specs.Splits.{AreNeighbours, CollidesAt, CouldSplit, Earned, Grounded, IsForced, OpenTree, Somewhere, SpentTree};
 ghost use Rattle.seq_model.specs.Systems.{place_of};
 ghost use Rattle.seq_model.specs.declared.tree.Node.{Node};
 ghost use Rattle.seq_model.specs.declared.tree.Node.TheVariants as Nodes;
@@ -63,4 +63,9 @@ pub fn nothing_to_split()
     ensures no_room { CouldSplit two_cubes 21 [] → ⊥ }
     ensures not_open { OpenTree two_cubes 21 (Nodes.Order 0 1 ∷ Nodes.Pending ∷ Nodes.Pending ∷ []) → ⊥ }
     ensures one_object { CouldSplit cube_on_a_narrow_plate 100 [] → ⊥ }
+{}
+
+/// The order of two cubes is earned only where they collide both ways: no two of them stand side by side in a cycle of forced orders.
+pub fn an_order_of_two_is_earned_both_ways()
+    ensures { (e : ℕ) → Earned two_cubes e [] (Nodes.Order 0 1) → Somewhere two_cubes e [] (λ at. CollidesAt two_cubes e at 0 1 × CollidesAt two_cubes e at 1 0) }
 {}

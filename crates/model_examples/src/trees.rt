@@ -38,7 +38,12 @@ pub fn a_side_follows_its_order()
     ensures no_contact { IsPath tall_and_low (before 1 0 ∷ Choices.Side low_under_the_gantry east ∷ []) → ⊥ }
 {}
 
-/// A side node is of a contact that exists, even if it has no children: a cube has no zone 7.
+/// A side node is of a contact that exists, even if it has no children: a cube has no zone 7, the printer no part 7, and there is no
+/// object 7.
 pub fn a_side_node_of_no_contact()
-    ensures { Refutes two_cubes 100 (before 0 1 ∷ []) (Nodes.Side (record { i = 0; zi = 7; part = 1; zj = 0; j = 1 }) 0 ∷ []) → ⊥ }
+    ensures zone_of_earlier { Refutes two_cubes 100 (before 0 1 ∷ []) (Nodes.Side (record { i = 0; zi = 7; part = 1; zj = 0; j = 1 }) 0 ∷ []) → ⊥ }
+    ensures zone_of_later { Refutes two_cubes 100 (before 0 1 ∷ []) (Nodes.Side (record { i = 0; zi = 0; part = 1; zj = 7; j = 1 }) 0 ∷ []) → ⊥ }
+    ensures part { Refutes two_cubes 100 (before 0 1 ∷ []) (Nodes.Side (record { i = 0; zi = 0; part = 7; zj = 0; j = 1 }) 0 ∷ []) → ⊥ }
+    ensures earlier { Refutes two_cubes 100 (before 7 1 ∷ []) (Nodes.Side (record { i = 7; zi = 0; part = 1; zj = 0; j = 1 }) 0 ∷ []) → ⊥ }
+    ensures later { Refutes two_cubes 100 (before 0 7 ∷ []) (Nodes.Side (record { i = 0; zi = 0; part = 1; zj = 0; j = 7 }) 0 ∷ []) → ⊥ }
 {}
