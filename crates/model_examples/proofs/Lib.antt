@@ -12,6 +12,7 @@ pub mod PlanLaws
 pub mod SceneLaws
 pub mod SideLaws
 pub mod SoundnessLaws
+pub mod SpentLaws
 pub mod SplitLaws
 pub mod SystemLaws
 pub mod TreeLaws

@@ -7,7 +7,7 @@ ghost use Rattle.seq_model.specs.Splits.{AreNeighbours, CollidesAt, CouldSplit, 
 ghost use Rattle.seq_model.specs.Systems.{place_of};
 ghost use Rattle.seq_model.specs.declared.tree.Node.{Node};
 ghost use Rattle.seq_model.specs.declared.tree.Node.TheVariants as Nodes;
-ghost use Rattle.model_examples.specs.Certificates.{before};
+ghost use Rattle.model_examples.specs.Certificates.{before, tree};
 ghost use Rattle.model_examples.specs.Cubes.{at, first_contact};
 ghost use Rattle.model_examples.specs.Jobs.{two_cubes, tall_and_low, cube_on_a_narrow_plate};
 ghost use Rattle.model_examples.specs.Plans.{beside_each_other, low_then_tall, tall_then_low, tall_to_the_east};
@@ -68,4 +68,10 @@ pub fn nothing_to_split()
 /// The order of two cubes is earned only where they collide both ways: no two of them stand side by side in a cycle of forced orders.
 pub fn an_order_of_two_is_earned_both_ways()
     ensures { (e : ℕ) → Earned two_cubes e [] (Nodes.Order 0 1) → Somewhere two_cubes e [] (λ at. CollidesAt two_cubes e at 0 1 × CollidesAt two_cubes e at 1 0) }
+{}
+
+/// The tree that refutes extent 45 for two cubes, with its first bound left pending, isn't spent: at the path of that leaf no point is left,
+/// so nothing could be split there.
+pub fn a_leaf_without_a_point_is_not_spent()
+    ensures { SpentTree two_cubes 45 11 (tree Nodes.Pending) → ⊥ }
 {}
