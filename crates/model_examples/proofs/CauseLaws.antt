@@ -26,13 +26,16 @@ neighbours = ([], (lit≤ tt, (inr forced, (inl (0, lit< tt, refl), tt))))
 pub ordered : Grounded two_cubes 100 (before 0 1 ∷ []) (Nodes.Order 0 1) → ⊥
 ordered g = g.0.0 (0, lit< tt, refl)
 
+pub no_point_to_the_east : (at : Values) → IsOn two_cubes 45 path_to_the_east at → ⊥
+no_point_to_the_east at on = no_point (system two_cubes 45 path_to_the_east) (times 2 1 4 1) (contradiction_is (system two_cubes 45 path_to_the_east) (times 2 1 4 1) refl) at.d at.u on.meets
+
 pub nowhere : Grounded two_cubes 45 path_to_the_east (Nodes.Side first_contact 4) → ⊥
-nowhere g = no_point (system two_cubes 45 path_to_the_east) (times 2 1 4 1) (contradiction_is (system two_cubes 45 path_to_the_east) (times 2 1 4 1) refl) g.at.d g.at.u g.on.meets
+nowhere g = no_point_to_the_east g.at g.on
 
 no_room : (at : Values) → IsOn two_cubes 21 [] at → ⊥
 no_room at on = no_point (system two_cubes 21 []) (times 0 1 1 0) (contradiction_is (system two_cubes 21 []) (times 0 1 1 0) refl) at.d at.u on.meets
 
-some_child : (p : List Choice) (ps : List (List Choice)) → (p ∷ ps) ≡ [] → ⊥
+pub some_child : (p : List Choice) (ps : List (List Choice)) → (p ∷ ps) ≡ [] → ⊥
 some_child p ps e = absurd (omega (arith, ap length e))
 
 pub unearned : CouldSplit two_cubes 21 [] → ⊥

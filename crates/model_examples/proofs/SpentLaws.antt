@@ -1,17 +1,15 @@
 -- A tree whose one pending leaf stands where no point is, so that it isn't spent.
-use Rattle.std.proofs.Common.{◌≡◌, ℕ, zero, suc, List, [], ◌∷◌, ◌++◌, Option, Some, None, length, get_or, map, refl, sym, ap, subst, arith}
+use Rattle.std.proofs.Common.{◌≡◌, ℕ, zero, suc, List, [], ◌∷◌, ◌++◌, Option, Some, None, get_or, map, refl, sym, ap, subst}
 use Rattle.std.specs.Prelude.{slice_get}
-use Rattle.model_laws.specs.Farkas.{no_point}
 use Rattle.model_examples.specs.Certificates.{before, four_sides, tree}
 use Rattle.model_examples.specs.Cubes.{first_contact}
-use Rattle.model_examples.specs.Deciding.{contradiction_is}
 use Rattle.model_examples.specs.Jobs.{two_cubes}
-use Rattle.model_examples.specs.Rows.{path_to_the_east, times}
+use Rattle.model_examples.specs.Rows.{path_to_the_east}
+use Rattle.model_examples.proofs.CauseLaws.{no_point_to_the_east, some_child}
 use Rattle.model_examples.proofs.OneList.{one_list_of_sides}
 use Rattle.model_examples.proofs.SideLaws.{cube_sides}
 use Rattle.seq_model.specs.Contacts.{points_of}
-use Rattle.seq_model.specs.Splits.{Values, IsOn, Earned, CouldSplit, StandsAt, SpentTree}
-use Rattle.seq_model.specs.Systems.{system}
+use Rattle.seq_model.specs.Splits.{Earned, CouldSplit, StandsAt, SpentTree}
 use Rattle.seq_model.specs.Trees.{also, AreChildren, Reads}
 use Rattle.seq_model.specs.declared.tree.Choice.{Choice}
 use Rattle.seq_model.specs.declared.tree.Choice.TheVariants as Choices
@@ -19,18 +17,12 @@ use Rattle.seq_model.specs.declared.tree.Node.{Node}
 use Rattle.seq_model.specs.declared.tree.Node.TheVariants as Nodes
 
 -- ---- the path to the east has no point at extent 45
-nowhere : (at : Values) → IsOn two_cubes 45 path_to_the_east at → ⊥
-nowhere at on = no_point (system two_cubes 45 path_to_the_east) (times 2 1 4 1) (contradiction_is (system two_cubes 45 path_to_the_east) (times 2 1 4 1) refl) at.d at.u on.meets
-
-some_child : (p : List Choice) (ps : List (List Choice)) → (p ∷ ps) ≡ [] → ⊥
-some_child p ps e = absurd (omega (arith, ap length e))
-
 no_split : CouldSplit two_cubes 45 path_to_the_east → ⊥
 no_split c = by c.node c.children c.earned
   where
     by : (node : Node) → AreChildren two_cubes path_to_the_east node (c.first ∷ c.others) → Earned two_cubes 45 path_to_the_east node → ⊥
-    by (Nodes.Order i j) k e = nowhere e.1.at e.1.on
-    by (Nodes.Side contact children) k e = nowhere e.at e.on
+    by (Nodes.Order i j) k e = no_point_to_the_east e.1.at e.1.on
+    by (Nodes.Side contact children) k e = no_point_to_the_east e.at e.on
     by (Nodes.Bound mults) k e = some_child c.first c.others k
     by (Nodes.Cycle objects) k e = some_child c.first c.others k
     by Nodes.Pending k e = some_child c.first c.others k
