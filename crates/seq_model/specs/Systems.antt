@@ -1,11 +1,13 @@
 -- The linear system of a path at an extent.
 --
---   Row                  c and the coefficients a say that c plus the sum of a * u is at least 0
 --   zeros job            a coefficient 0 for each variable: two for each object
 --   at_most job z bound  bound - u >= 0 for variable z
 --   bounds_of ..         two rows for each object: the region's size less the object's span, in x and in y
---   side_row job c dir   the later object of the contact stands beyond the side
---   system job e path    the bounds, then one row for each side of the path in path order
+--   side_constant job e c dir      the constant of a side's row: by how far the low corners differ along it, less its greatest value
+--   pair_row job c x y i j         the row that says c + x * (x of j less x of i) + y * (y of j less y of i) >= 0
+--   side_row job e c dir           the later thing of the contact stands beyond the side
+--   side_rows job e path           one such row for each side of a path, in path order
+--   system job e path    the bounds, then those
 --   row_value d u row    the value of a row at the point u / d, times d
 --   MeetsRows rows d u   the point u / d has no negative coordinate and meets every row
 --   row_at rows r        row number r
@@ -18,21 +20,18 @@
 use Rattle.std.specs.Prelude.{ℕ, ◌+◌, ◌*◌, ◌<◌, List, [], ◌∷◌, ◌++◌, ℤ, pos, neg_ℤ, ◌+ℤ◌, ◌-ℤ◌, ◌*ℤ◌, ◌≤ℤ◌, ◌<ℤ◌, All, length, slice_index_or, slice_set, replicate}
 use Rattle.integer_laws.specs.Vectors.{dot, plus, scale}
 use Rattle.seq_model.specs.Contacts.{points_of}
-use Rattle.seq_model.specs.Jobs.{object_at}
+use Rattle.seq_model.specs.Jobs.{low_of}
 use Rattle.seq_model.specs.Plates.{share_of, half_left}
 use Rattle.seq_model.specs.Points.{Point}
 use Rattle.seq_model.specs.Sides.{greatest_along}
 use Rattle.seq_model.specs.declared.job.Job.{Job}
 use Rattle.seq_model.specs.declared.job.Object.{Object}
+use Rattle.seq_model.specs.declared.row.Row.{Row}
 use Rattle.seq_model.specs.declared.tree.Choice.{Choice}
 use Rattle.seq_model.specs.declared.tree.Choice.TheVariants as Choices
 use Rattle.seq_model.specs.declared.tree.Contact.{Contact}
 use Rattle.seq_model.specs.declared.tree.Dir.{Dir}
 use Rattle.seq_model.specs.declared.tree.Mult.{Mult}
-
-pub record Row : Type 0 where
-  pub c : ℤ
-  pub a : List ℤ
 
 abbrev pub zeros : Job → List ℤ
 zeros job = replicate (2 * length job.objects) (pos 0)
@@ -47,22 +46,25 @@ bounds_of job e variable (o ∷ objects) =
     ∷ at_most job (variable + 1) (share_of job.printer.depth job.printer.grid e -ℤ (o.high.y -ℤ o.low.y))
     ∷ bounds_of job e (variable + 2) objects
 
-abbrev pub side_row : Job → Contact → Dir → Row
-side_row job contact dir =
-    let i = (object_at job contact.i).low in
-    let j = (object_at job contact.j).low in
-    record {
-      c = dir.x *ℤ (i.x -ℤ j.x) +ℤ dir.y *ℤ (i.y -ℤ j.y) -ℤ greatest_along dir (points_of job contact);
-      a = slice_set (slice_set (slice_set (slice_set (zeros job) (2 * contact.i) (neg_ℤ dir.x)) (2 * contact.i + 1) (neg_ℤ dir.y)) (2 * contact.j) dir.x) (2 * contact.j + 1) dir.y;
-    }
+abbrev pub side_constant : Job → ℕ → Contact → Dir → ℤ
+side_constant job e contact dir =
+    let i = low_of job e contact.i in
+    let j = low_of job e contact.j in
+    dir.x *ℤ (i.x -ℤ j.x) +ℤ dir.y *ℤ (i.y -ℤ j.y) -ℤ greatest_along dir (points_of job contact)
 
-abbrev pub side_rows : Job → List Choice → List Row
-side_rows job [] = []
-side_rows job (Choices.Before i j ∷ path) = side_rows job path
-side_rows job (Choices.Side contact dir ∷ path) = side_row job contact dir ∷ side_rows job path
+abbrev pub pair_row : Job → ℤ → ℤ → ℤ → ℕ → ℕ → Row
+pair_row job c x y i j = record { c = c; a = slice_set (slice_set (slice_set (slice_set (zeros job) (2 * i) (neg_ℤ x)) (2 * i + 1) (neg_ℤ y)) (2 * j) x) (2 * j + 1) y }
+
+abbrev pub side_row : Job → ℕ → Contact → Dir → Row
+side_row job e contact dir = pair_row job (side_constant job e contact dir) dir.x dir.y contact.i contact.j
+
+abbrev pub side_rows : Job → ℕ → List Choice → List Row
+side_rows job e [] = []
+side_rows job e (Choices.Before i j ∷ path) = side_rows job e path
+side_rows job e (Choices.Side contact dir ∷ path) = side_row job e contact dir ∷ side_rows job e path
 
 abbrev pub system : Job → ℕ → List Choice → List Row
-system job e path = bounds_of job e 0 job.objects ++ side_rows job path
+system job e path = bounds_of job e 0 job.objects ++ side_rows job e path
 
 abbrev pub row_value : ℤ → List ℤ → Row → ℤ
 row_value d u row = d *ℤ row.c +ℤ dot row.a u
@@ -98,7 +100,7 @@ pub record Contradiction (rows : List Row) (mults : List Mult) : Type 0 where
 abbrev pub place_of : Job → ℕ → ℤ → List ℤ → ℕ → Point
 place_of job e d u o =
     let p = job.printer in
-    let low = (object_at job o).low in
+    let low = low_of job e o in
     record {
       x = slice_index_or u (2 * o) (pos 0) +ℤ d *ℤ (half_left p.width (share_of p.width p.grid e) -ℤ low.x);
       y = slice_index_or u (2 * o + 1) (pos 0) +ℤ d *ℤ (half_left p.depth (share_of p.depth p.grid e) -ℤ low.y);
