@@ -2,26 +2,27 @@
 use Rattle.std.proofs.Common.{◌<◌, ◌≤◌, List, length, arith, ℤ, pos, negsuc, neg_ℤ, ◌-ℤ◌, ◌≤ℤ◌, ◌<ℤ◌, All, Contains, unsigned_abs}
 use Rattle.std.specs.Prelude.{◌↔◌}
 use Rattle.std.proofs.lemmas.Int.{ints}
-use Rattle.integer_laws.specs.Members.{All-in, All-from_in, Contains-from_in}
+use Rattle.integer_laws.specs.Laws.Members.{All-in, All-from_in, Contains-from_in}
 use Rattle.seq_model.specs.declared.printer.Spot.{Spot}
-use Rattle.seq_model.specs.Points.{Point}
+use Rattle.seq_model.specs.Points.{Point, at_spot}
 use Rattle.seq_model.specs.Outlines.{Inner, Within}
-use Rattle.convex_outline.specs.Corners.{IsNear, at_spot}
+use Rattle.convex_outline.specs.Corners.{IsNarrow}
 use Rattle.convex_outline.specs.Chains.{IsRising, SameMembers, both_chains}
-use Rattle.convex_outline.specs.Keeping.{Hull, keeps_as, short_hull}
-use Rattle.convex_outline.specs.EveryList.{Wide, rising_hull}
+use Rattle.convex_outline.specs.Hulls.{Hull}
+use Rattle.convex_outline.specs.Laws.Keeping.{keeps_as, short_hull}
+use Rattle.convex_outline.specs.Laws.EveryList.{Wide, rising_hull}
 
 low_end : (y : ℤ) → unsigned_abs y < 2097152 → (neg_ℤ (pos 2097151) ≤ℤ y) × (y ≤ℤ pos 2097151)
 low_end (pos n) h = (omega (arith, ints), omega (arith, ints))
 low_end (negsuc n) h = (omega (arith, ints), omega (arith, ints))
 
-near_wide : (S : List Spot) → All IsNear S → Wide (pos 4194304) S
-near_wide S near = record { least = omega (arith, ints); apart = λ a b i j. apart a.y b.y (low_end a.y (All-in IsNear S a near i).1).1 (low_end b.y (All-in IsNear S b near j).1).0 }
+near_wide : (S : List Spot) → All IsNarrow S → Wide (pos 4194304) S
+near_wide S near = record { least = omega (arith, ints); apart = λ a b i j. apart a.y b.y (low_end a.y (All-in IsNarrow S a near i).1).1 (low_end b.y (All-in IsNarrow S b near j).1).0 }
   where
     apart : (x y : ℤ) → x ≤ℤ pos 2097151 → neg_ℤ (pos 2097151) ≤ℤ y → (x -ℤ y) <ℤ pos 4194304
     apart x y h k = omega (arith, ints)
 
-pub near_hull : (S xs : List Spot) → SameMembers S xs → All IsNear xs → IsRising xs → 2 ≤ length xs → Hull S (both_chains xs)
+pub near_hull : (S xs : List Spot) → SameMembers S xs → All IsNarrow xs → IsRising xs → 2 ≤ length xs → Hull S (both_chains xs)
 near_hull S xs same near rising long =
     let h = rising_hull (pos 4194304) xs (near_wide xs near) rising long in
     record { corners = h.corners; keeps = keeps_as xs S (both_chains xs) (λ s i. (same s).1 i) (λ s i. (same s).0 i) h.keeps }

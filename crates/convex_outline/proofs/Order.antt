@@ -10,8 +10,9 @@ use Rattle.std.proofs.lemmas.Cmp.{int_cmp_total, int_eq_equiv, on_total, then_to
 use Rattle.std.proofs.lemmas.List.Kept.{Contains-dedup, Contains-from_dedup, IsStrictlySortedBy-dedup}
 use Rattle.std.proofs.lemmas.List.Sorted.{Contains-permutation, IsPermutation-sym}
 use Rattle.seq_model.specs.declared.printer.Spot.{Spot}
-use Rattle.integer_laws.specs.Members.{In, In-from_contains, Contains-from_in}
-use Rattle.model_laws.specs.Turning.{before_from_cases}
+use Rattle.integer_laws.specs.Members.{In}
+use Rattle.integer_laws.specs.Laws.Members.{In-from_contains, Contains-from_in}
+use Rattle.model_laws.specs.Laws.Turning.{before_from_cases}
 use Rattle.convex_outline.specs.Corners.{IsBefore}
 use Rattle.convex_outline.specs.Chains.{RisesFrom, IsRising, SameMembers}
 

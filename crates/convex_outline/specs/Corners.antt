@@ -2,12 +2,11 @@
 -- and `TurnsLeft`, by recursion on the list, those of `model_laws`.
 --
 --   turn_at a b q       the turn from a to b at a point q, times its denominator
---   at_spot s           the point that a spot is
 --   NoThreeOnALine C    of three different members none lies on the line of the other two
 --   IsBetween a b s     s is not before a and not after b
 --   AreEnds S C         C are the first and the last member of S in that order, one if they are the same, none of no member
 --   HasArea S           three members turn left: they don't all lie on one line
---   IsNear s            the coordinates of s are below 2^21 in size
+--   IsNarrow s            the coordinates of s are below 2^21 in size
 use Rattle.std.specs.Prelude.{◌≡◌, ◌<◌, ◌^◌, List, [], ◌∷◌, ℤ, pos, ◌-ℤ◌, ◌*ℤ◌, ◌<ℤ◌, ◌⊎◌, unsigned_abs, All, Contains}
 pub use Rattle.seq_model.specs.Corners.{turn, IsBefore, AreCorners}
 pub use Rattle.model_laws.specs.Turning.{StartsLeast, LeftAbout, TurnsLeft}
@@ -17,9 +16,6 @@ use Rattle.seq_model.specs.Points.{Point}
 -- the turn at a point, times its denominator
 abbrev pub turn_at : Spot → Spot → Point → ℤ
 turn_at a b q = (b.x -ℤ a.x) *ℤ (q.y -ℤ q.d *ℤ a.y) -ℤ (b.y -ℤ a.y) *ℤ (q.x -ℤ q.d *ℤ a.x)
-
-abbrev pub at_spot : Spot → Point
-at_spot s = record { x = s.x; y = s.y; d = pos 1 }
 
 -- of three different members none lies on the line of the other two
 abbrev pub NoThreeOnALine : List Spot → Type 0
@@ -48,5 +44,5 @@ pub record HasArea (S : List Spot) : Type 0 where
   pub k_in : Contains S k
   pub turns : pos 0 <ℤ turn i j k
 
-abbrev pub IsNear : Spot → Type 0
-IsNear s = (unsigned_abs s.x < 2 ^ 21) × (unsigned_abs s.y < 2 ^ 21)
+abbrev pub IsNarrow : Spot → Type 0
+IsNarrow s = (unsigned_abs s.x < 2 ^ 21) × (unsigned_abs s.y < 2 ^ 21)

@@ -1,16 +1,4 @@
-pub mod Area
-pub mod BothChains
-pub mod ChainLaws
 pub mod Chains
-pub mod Closing
 pub mod Corners
-pub mod EveryList
-pub mod Fan
-pub mod Inside
-pub mod Keeping
+pub mod Hulls
 pub mod Laws
-pub mod Means
-pub mod Polygons
-pub mod Turning
-pub mod Vectors
-pub mod Wachspress

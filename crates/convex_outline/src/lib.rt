@@ -10,10 +10,10 @@
 
 ghost use Rattle.std.specs.Prelude.{◌≡◌, List, [], reverse, IfOk, All, Contains, ◌<◌, ◌≤◌, length, ◌^◌, ◌-ℤ◌, unsigned_abs, ◌↔◌};
 ghost use Rattle.seq_model.specs.declared.printer.Spot.{Spot};
-ghost use Rattle.seq_model.specs.Points.{Point};
+ghost use Rattle.seq_model.specs.Points.{Point, at_spot};
 ghost use Rattle.seq_model.specs.Outlines.{Inner, Within};
-ghost use Rattle.convex_outline.specs.Corners.{turn, at_spot, AreCorners, AreEnds, HasArea, IsNear, NoThreeOnALine};
-ghost use Rattle.convex_outline.specs.EveryList.{HullOf};
+ghost use Rattle.convex_outline.specs.Corners.{turn, AreCorners, AreEnds, HasArea, IsNarrow, NoThreeOnALine};
+ghost use Rattle.convex_outline.specs.Hulls.{HullOf};
 ghost use Rattle.convex_outline.specs.Chains.{fallen, grown, both_chains, IsRising, SameMembers};
 
 use integer_laws::{difference, wide_product};
@@ -33,9 +33,9 @@ fn apart(a: i64, b: i64) -> i64
 
 // More than 0 where c lies to the left of the way from a to b.
 fn turn_of(a: &Spot, b: &Spot, c: &Spot) -> i128
-    requires a { IsNear a.now }
-    requires b { IsNear b.now }
-    requires c { IsNear c.now }
+    requires a { IsNarrow a.now }
+    requires b { IsNarrow b.now }
+    requires c { IsNarrow c.now }
     ensures { result ≡ turn a.now b.now c.now }
 {
     let ahead = wide_product(apart(b.x, a.x), apart(c.y, a.y));
@@ -45,10 +45,10 @@ fn turn_of(a: &Spot, b: &Spot, c: &Spot) -> i128
 
 // Takes off the newest corners at which the way on to `to` doesn't turn left.
 fn fall_back(chain: &mut Vec<Spot>, to: &Spot)
-    requires chain { All IsNear chain.old.items }
-    requires to { IsNear to.now }
+    requires chain { All IsNarrow chain.old.items }
+    requires to { IsNarrow to.now }
     ensures fallen { reverse chain.new.items ≡ fallen to.now (reverse chain.old.items) }
-    ensures near { All IsNear chain.new.items }
+    ensures near { All IsNarrow chain.new.items }
 {
     while chain.len() >= 2 && turn_of(&chain[chain.len() - 2], &chain[chain.len() - 1], to) <= 0 {
         let _ = chain.pop();
@@ -57,7 +57,7 @@ fn fall_back(chain: &mut Vec<Spot>, to: &Spot)
 
 // The chain through the points that turns left at each corner.
 fn chain_of(alloc: Global, spots: &[Spot]) -> Result<Vec<Spot>, AllocError>
-    requires { All IsNear spots.now }
+    requires { All IsNarrow spots.now }
     ensures { IfOk result (λ chain. reverse chain.items ≡ grown [] spots.now) }
 {
     let mut chain = Vec::new(alloc);
@@ -70,7 +70,7 @@ fn chain_of(alloc: Global, spots: &[Spot]) -> Result<Vec<Spot>, AllocError>
 
 // The corners of ascending points: along the lower side, and back along the upper one. Each chain ends where the other begins.
 fn corners_of(alloc: Global, mut spots: Vec<Spot>) -> Result<Vec<Spot>, AllocError>
-    requires { All IsNear spots.items }
+    requires { All IsNarrow spots.items }
     ensures { IfOk result (λ corners. corners.items ≡ both_chains spots.items) }
 {
     let mut corners = chain_of(alloc, spots.as_slice())?;
@@ -84,8 +84,8 @@ fn corners_of(alloc: Global, mut spots: Vec<Spot>) -> Result<Vec<Spot>, AllocErr
 
 // The points in ascending order, each once.
 fn ascending(alloc: Global, spots: &[Spot]) -> Result<Vec<Spot>, AllocError>
-    requires { All IsNear spots.now }
-    ensures near { IfOk result (λ sorted. All IsNear sorted.items) }
+    requires { All IsNarrow spots.now }
+    ensures near { IfOk result (λ sorted. All IsNarrow sorted.items) }
     ensures members { IfOk result (λ sorted. SameMembers spots.now sorted.items) }
     ensures rising { IfOk result (λ sorted. IsRising sorted.items) }
 {
@@ -99,7 +99,7 @@ fn ascending(alloc: Global, spots: &[Spot]) -> Result<Vec<Spot>, AllocError>
 /// The corners of the convex hull, counterclockwise from the least (x, y), no three on a line. No point has none, points on one
 /// line have their two ends, and one point, however often it stands there, has itself.
 pub fn hull(alloc: Global, spots: &[Spot]) -> Result<Vec<Spot>, NoMemory>
-    requires { All IsNear spots.now }
+    requires { All IsNarrow spots.now }
     ensures corners { IfOk result (λ hull. AreCorners hull.items) }
     ensures members { IfOk result (λ hull. All (Contains spots.now) hull.items) }
     ensures within { IfOk result (λ hull. All (λ s. Within hull.items (at_spot s)) spots.now) }

@@ -1,11 +1,11 @@
 ghost use Rattle.std.specs.Prelude.{IfOk, All};
-ghost use Rattle.convex_outline.specs.Corners.{IsNear};
+ghost use Rattle.convex_outline.specs.Corners.{IsNarrow};
 
 use super::*;
 use std::test::Fail;
 
 fn spot(pair: &(i8, i8)) -> Spot
-    ensures { IsNear result }
+    ensures { IsNarrow result }
 {
     Spot {
         x: i64::from(pair.0),
@@ -14,7 +14,7 @@ fn spot(pair: &(i8, i8)) -> Spot
 }
 
 fn spots(alloc: Global, pairs: &[(i8, i8)]) -> Result<Vec<Spot>, AllocError>
-    ensures { IfOk result (λ spots. All IsNear spots.items) }
+    ensures { IfOk result (λ spots. All IsNarrow spots.items) }
 {
     let mut spots = Vec::new(alloc);
     for pair in pairs {

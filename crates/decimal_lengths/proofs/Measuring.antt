@@ -4,7 +4,7 @@ use Rattle.std.specs.Str.Parse.{digits_value}
 use Rattle.std.proofs.lemmas.Int.{ints}
 use Rattle.std.proofs.lemmas.Nat.{pow-add}
 use Rattle.std.proofs.Math.Nat.{mul_assoc}
-use Rattle.integer_laws.specs.Ring as Ring
+use Rattle.integer_laws.specs.Laws.Ring as Ring
 use Rattle.seq_num.specs.Nearest.{IsNearest, half_up}
 use Rattle.seq_num.specs.Laws.Nearest.{half_up_is, nearest_half, IsNearest-neg, nearest_unique}
 use Rattle.decimal_lengths.specs.Decimals.{Sign, absent, plus, minus, signed, all_digits, Exponent, exponent_value, fraction_digits, Parts, IsDecimal, mantissa, power}

@@ -1,10 +1,12 @@
 -- The proofs of the three examples: how the laws are used.
 use Rattle.std.proofs.Common.{◌≡◌, get_or, ap, sym, ◌∙◌, arith, ℤ, pos, neg_ℤ, ◌+ℤ◌, ◌-ℤ◌, ◌*ℤ◌}
 use Rattle.std.proofs.lemmas.Int.{ints}
-use Rattle.integer_laws.specs.Ring.{expand}
-use Rattle.integer_laws.specs.Order.{add_same, mul_same, same_from}
-use Rattle.integer_laws.specs.Vectors.{dot, combined, dot-combined, dot-set, get_or-combined, length-combined}
-use Rattle.integer_laws.specs.Weights.{weigh, total, weigh-plus, weigh-scale}
+use Rattle.integer_laws.specs.Laws.Ring.{expand}
+use Rattle.integer_laws.specs.Laws.Order.{add_same, mul_same, same_from}
+use Rattle.integer_laws.specs.Vectors.{dot, combined}
+use Rattle.integer_laws.specs.Laws.Vectors.{dot-combined, dot-set, get_or-combined, length-combined}
+use Rattle.integer_laws.specs.Weights.{weigh, total}
+use Rattle.integer_laws.specs.Laws.Weights.{weigh-plus, weigh-scale}
 use Rattle.integer_laws.specs.Examples.{CornerIdentity, RowOfAPivot, MeanOfMeans}
 
 pub corner_identity : CornerIdentity

@@ -3,12 +3,9 @@
 --   least xs             the least member, 0 of no member
 --   greatest xs          the greatest member, 0 of no member
 --   IsGreatest f xs g    each member's value is at most g, and a member reaches it
---   greatest_is          the greatest of the values is so, of a list that is not empty
---   greatest_unique      and no other value is
-use Rattle.std.proofs.Common.{◌≡◌, List, [], ◌∷◌, map, fold, refl, sym, subst, arith, ℤ, pos, ◌≤ℤ◌, ◌⊎◌, inl, inr, All, Contains}
-use Rattle.std.proofs.lemmas.Int.{ints, fold-int_max_bounds, fold-int_max_reached}
+use Rattle.std.proofs.Common.{◌≡◌, List, [], ◌∷◌, fold, ℤ, pos, ◌≤ℤ◌}
 use Rattle.std.specs.Int.{int_min, int_max}
-use Rattle.integer_laws.specs.Members.{In, In-from_contains, All-in, In-map, In-map_cases}
+use Rattle.integer_laws.specs.Members.{In}
 
 abbrev pub least : List ℤ → ℤ
 least [] = pos 0
@@ -23,30 +20,3 @@ pub record IsGreatest {A : Type 0} (f : A → ℤ) (xs : List A) (g : ℤ) : Typ
   pub at : A
   pub member : In at xs
   pub reached : f at ≡ g
-
-pub greatest_is : {A : Type 0} (f : A → ℤ) (x : A) (xs : List A) → IsGreatest f (x ∷ xs) (greatest (map f (x ∷ xs)))
-greatest_is {A} f x xs = by (fold-int_max_reached (f x) (map f xs) g refl)
-  where
-    g : ℤ
-    g = fold int_max (f x) (map f xs)
-
-    most : (f x ≤ℤ g) × All (λ v. v ≤ℤ g) (map f xs)
-    most = fold-int_max_bounds (f x) (map f xs) g refl
-
-    bound : (y : A) → In y (x ∷ xs) → f y ≤ℤ g
-    bound y (inl e) = subst (λ t. f t ≤ℤ g) (sym e) most.0
-    bound y (inr i) = All-in (λ v. v ≤ℤ g) (map f xs) (f y) most.1 (In-map f xs y i)
-
-    by : (g ≡ f x) ⊎ Contains (map f xs) g → IsGreatest f (x ∷ xs) g
-    by (inl e) = record { bound = bound; at = x; member = inl refl; reached = sym e }
-    by (inr c) =
-        let m = In-map_cases f xs g (In-from_contains (map f xs) g c) in
-        record { bound = bound; at = m.0; member = inr m.1; reached = sym m.2 }
-
-pub greatest_unique : {A : Type 0} (f : A → ℤ) (xs : List A) (g h : ℤ) → IsGreatest f xs g → IsGreatest f xs h → g ≡ h
-greatest_unique f xs g h a b =
-    let low = b.bound a.at a.member in
-    let high = a.bound b.at b.member in
-    let g_is = a.reached in
-    let h_is = b.reached in
-    omega (arith, ints)

@@ -1,11 +1,9 @@
-pub mod Ring
-pub mod Order
 pub mod Quotients
 pub mod Divisors
-pub mod Steps
 pub mod Members
 pub mod Vectors
 pub mod Weights
 pub mod Extremes
 pub mod InPlace
 pub mod Examples
+pub mod Laws

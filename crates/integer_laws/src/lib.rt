@@ -2,7 +2,7 @@
 //!
 //! std has the laws of sums of integers. The modules of `specs/` add those of products, order, quotients and common divisors, and of
 //! lists of integers: vectors, weighted sums, greatest values. Other crates cite them in their proofs, as
-//! `use Rattle.integer_laws.specs.Ring.{expand}`. Each module opens with a table of what it has; docs/PROVING.md tells how to use them.
+//! `use Rattle.integer_laws.specs.Laws.Ring.{expand}`. Each module opens with a table of what it has; docs/PROVING.md tells how to use them.
 //!
 //! The calls below are one operation each. A clause tells the value, as a number without bounds, and others its size, so that a larger
 //! expression is proved from its parts. The module `examples` shows three laws of the kind that later proofs need. Nothing here reads

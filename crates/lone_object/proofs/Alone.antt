@@ -36,7 +36,7 @@ moved_lies width depth low high s f b = record {
 only : (P : Place → Type 0) (place : Place) → P place → All P (place ∷ [])
 only P place h = All-cons P place [] h (All-nil P)
 
-pub alone_valid : (scene : Scene) (low high : Spot) → scene.objects ≡ 1 → 1 ≤ scene.grid → pos 1 ≤ℤ scene.width → pos 1 ≤ℤ scene.depth → Spans scene 0 low high → FitsPlate scene.width scene.depth low high → Valid scene scene.grid (lone_plan (zero_place low))
+pub alone_valid : (scene : Scene) (low high : Spot) → scene.objects ≡ 1 → 1 ≤ scene.grid → pos 1 ≤ℤ scene.width → pos 1 ≤ℤ scene.depth → Spans (scene.bands 0) (scene.spots 0) low high → FitsPlate scene.width scene.depth low high → Valid scene scene.grid (lone_plan (zero_place low))
 alone_valid scene low high one grid width depth spans fits =
     let place = zero_place low in
     let region : region_of scene.width scene.depth scene.grid scene.grid ≡ whole_plate scene.width scene.depth = whole_region scene.width scene.depth scene.grid width depth grid in

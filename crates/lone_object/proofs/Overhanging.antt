@@ -3,9 +3,10 @@ use Rattle.std.proofs.Common.{◌≡◌, ℕ, zero, suc, ◌<◌, ◌≤◌, ℤ
 use Rattle.std.proofs.lemmas.Bool.Decides.{nat_tests}
 use Rattle.std.proofs.lemmas.Int.{ints}
 use Rattle.std.proofs.lemmas.List.Elements.{All-nil, All-cons, All-contains, All-head, All-tail}
-use Rattle.integer_laws.specs.Ring.{expand}
-use Rattle.integer_laws.specs.Order.{cancel_le, add_le, le_from}
-use Rattle.model_laws.specs.Nested.{LiesWithin, nested}
+use Rattle.integer_laws.specs.Laws.Ring.{expand}
+use Rattle.integer_laws.specs.Laws.Order.{cancel_le, add_le, le_from}
+use Rattle.model_laws.specs.Nested.{LiesWithin}
+use Rattle.model_laws.specs.Laws.Nested.{nested}
 use Rattle.seq_model.specs.declared.job.Job.{Job}
 use Rattle.seq_model.specs.declared.job.Object.{Object}
 use Rattle.seq_model.specs.declared.plan.Place.{Place}
@@ -14,7 +15,8 @@ use Rattle.seq_model.specs.declared.plate.Region.{Region}
 use Rattle.seq_model.specs.declared.printer.Spot.{Spot}
 use Rattle.seq_model.specs.Plates.{region_of}
 use Rattle.seq_model.specs.Scenes.{Scene, SomeSpot, Spans, LiesIn, Valid}
-use Rattle.seq_model.specs.Systems.{Row, bounds_of, system, row_at, IsTaken, Contradiction, sum_coefficients}
+use Rattle.seq_model.specs.declared.row.Row.{Row}
+use Rattle.seq_model.specs.Systems.{bounds_of, system, row_at, IsTaken, Contradiction, sum_coefficients}
 use Rattle.seq_model.specs.Trees.{Refutes}
 use Rattle.lone_object.specs.Lone.{Overhangs, IsFirstNegative, span_tree}
 use Rattle.lone_object.proofs.Alone.{whole_share, whole_plate, whole_region}
@@ -44,7 +46,7 @@ abbrev IsInside : Scene → Region → ℤ → Place → Type 0
 IsInside scene region scale place = (b : ℕ) → b < scene.bands place.object → All (LiesIn region scale place) (scene.spots place.object b)
 
 -- a spot of the object lies in the region
-lies : (scene : Scene) (region : Region) (scale : ℤ) (place : Place) (o : ℕ) (P : Spot → Type 0) → IsInside scene region scale place → place.object ≡ o → (s : SomeSpot scene o P) → LiesIn region scale place s.spot
+lies : (scene : Scene) (region : Region) (scale : ℤ) (place : Place) (o : ℕ) (P : Spot → Type 0) → IsInside scene region scale place → place.object ≡ o → (s : SomeSpot (scene.bands o) (scene.spots o) P) → LiesIn region scale place s.spot
 lies scene region scale place o P inside is s =
     let there : (b : ℕ) → b < scene.bands o → All (LiesIn region scale place) (scene.spots o b) = subst (λ k. (b : ℕ) → b < scene.bands k → All (LiesIn region scale place) (scene.spots k b)) is inside in
     All-contains (LiesIn region scale place) (scene.spots o s.band) s.spot (there s.band s.below_count) s.member
@@ -54,7 +56,7 @@ record SpanFits (region : Region) (low high : Spot) : Type 0 where
   x : (high.x -ℤ low.x) ≤ℤ region.w
   y : (high.y -ℤ low.y) ≤ℤ region.h
 
-span_fits : (scene : Scene) (region : Region) (scale : ℤ) (place : Place) (low high : Spot) → pos 1 ≤ℤ scale → IsInside scene region scale place → place.object ≡ 0 → Spans scene 0 low high → SpanFits region low high
+span_fits : (scene : Scene) (region : Region) (scale : ℤ) (place : Place) (low high : Spot) → pos 1 ≤ℤ scale → IsInside scene region scale place → place.object ≡ 0 → Spans (scene.bands 0) (scene.spots 0) low high → SpanFits region low high
 span_fits scene region scale place low high p inside is spans =
     let west = lies scene region scale place 0 _ inside is spans.west in
     let east = lies scene region scale place 0 _ inside is spans.east in
@@ -69,7 +71,7 @@ too_wide width depth low high zero region over within fits = absurd (omega (arit
 too_wide width depth low high (suc zero) region over within fits = absurd (omega (arith, ints, over.1, within.south, within.north, fits.y))
 too_wide width depth low high (suc (suc row)) region over within fits = over
 
-pub no_plan : (scene : Scene) (low high : Spot) (row : ℕ) → scene.objects ≡ 1 → 1 ≤ scene.grid → pos 1 ≤ℤ scene.width → pos 1 ≤ℤ scene.depth → Spans scene 0 low high → Overhangs scene.width scene.depth low high row → (e : ℕ) (plan : Plan) → Valid scene e plan → ⊥
+pub no_plan : (scene : Scene) (low high : Spot) (row : ℕ) → scene.objects ≡ 1 → 1 ≤ scene.grid → pos 1 ≤ℤ scene.width → pos 1 ≤ℤ scene.depth → Spans (scene.bands 0) (scene.spots 0) low high → Overhangs scene.width scene.depth low high row → (e : ℕ) (plan : Plan) → Valid scene e plan → ⊥
 no_plan scene low high row one grid width depth spans over e plan valid =
     let region = region_of scene.width scene.depth scene.grid e in
     let p = placed (IsInside scene region plan.scale) plan.places 0 valid.inside (valid.once 0 (omega (arith, one))) in

@@ -13,7 +13,8 @@ use Rattle.seq_model.specs.declared.plan.Plan.{Plan}
 use Rattle.seq_model.specs.declared.printer.Spot.{Spot}
 use Rattle.seq_model.specs.declared.tree.Node.{Node}
 use Rattle.seq_model.specs.declared.tree.Node.TheVariants as Nodes
-use Rattle.seq_model.specs.Systems.{Row, row_at}
+use Rattle.seq_model.specs.declared.row.Row.{Row}
+use Rattle.seq_model.specs.Systems.{row_at}
 
 -- the span from low to high is at most the plate's size, in x and in y
 pub record FitsPlate (width depth : ℤ) (low high : Spot) : Type 0 where

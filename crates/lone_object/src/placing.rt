@@ -56,14 +56,14 @@ pub fn place_alone(printer: &Printer, low: &Spot, high: &Spot) -> Result<Place, 
 /// The plan of that one place is valid on the whole plate, for whatever scene has this one object.
 pub fn lone_place_is_valid()
     ensures { (scene : Scene) (low high : Spot) → scene.objects ≡ 1 → 1 ≤ scene.grid → pos 1 ≤ℤ scene.width → pos 1 ≤ℤ scene.depth
-        → Spans scene 0 low high → FitsPlate scene.width scene.depth low high → Valid scene scene.grid (lone_plan (zero_place low)) }
+        → Spans (scene.bands 0) (scene.spots 0) low high → FitsPlate scene.width scene.depth low high → Valid scene scene.grid (lone_plan (zero_place low)) }
 {}
 
 /// An object that spans more than the plate has no valid plan at any extent; the row that its span breaks is the first
 /// of the system with a negative constant, and the tree of this row alone refutes the whole plate.
 pub fn overhang_is_refuted()
     ensures none { (scene : Scene) (low high : Spot) (row : ℕ) → scene.objects ≡ 1 → 1 ≤ scene.grid → pos 1 ≤ℤ scene.width → pos 1 ≤ℤ scene.depth
-        → Spans scene 0 low high → Overhangs scene.width scene.depth low high row → (e : ℕ) (plan : Plan) → Valid scene e plan → ⊥ }
+        → Spans (scene.bands 0) (scene.spots 0) low high → Overhangs scene.width scene.depth low high row → (e : ℕ) (plan : Plan) → Valid scene e plan → ⊥ }
     ensures first { (job : Job) (object : Object) (row : ℕ) → job.objects ≡ object ∷ [] → Overhangs job.printer.width job.printer.depth object.low object.high row
         → IsFirstNegative (system job job.printer.grid []) row }
     ensures tree { (job : Job) (object : Object) (row : ℕ) → job.objects ≡ object ∷ [] → Overhangs job.printer.width job.printer.depth object.low object.high row

@@ -4,7 +4,8 @@ use Rattle.std.specs.List.Sorted.{IsPermutation}
 use Rattle.std.specs.Ordering.{match_ordering, ordering_reverse}
 use Rattle.std.proofs.lemmas.List.Sums.{sum_by-cons}
 use Rattle.std.proofs.lemmas.List.Sorted.{All-permutation, IsPermutation-map, sum_by-IsPermutation, length_permutation}
-use Rattle.integer_laws.specs.Members.{In, In-append_cases, All-in, All-from_in}
+use Rattle.integer_laws.specs.Members.{In}
+use Rattle.integer_laws.specs.Laws.Members.{In-append_cases, All-in, All-from_in}
 use Rattle.seq_model.specs.declared.mesh.Facet.{Facet}
 use Rattle.mesh_checks.specs.declared.half_edges.HalfEdge.{HalfEdge}
 use Rattle.mesh_checks.specs.Edges.{Edge, edges, turned, same_edge, times, excess, open_in}

@@ -3,7 +3,8 @@ use Rattle.std.proofs.Common.{◌≡◌, ℕ, zero, suc, ◌<◌, ◌≤◌, Lis
 use Rattle.std.specs.Prelude.{◌≢◌}
 use Rattle.std.proofs.lemmas.List.Kept.{AllPairs-cons}
 use Rattle.std.proofs.lemmas.List.Sums.{sum_by-cons, sum_by-append}
-use Rattle.integer_laws.specs.Members.{In, All-from_in, Contains-from_in, In-append_left, In-append_right, In-append_cases}
+use Rattle.integer_laws.specs.Members.{In}
+use Rattle.integer_laws.specs.Laws.Members.{All-from_in, Contains-from_in, In-append_left, In-append_right, In-append_cases}
 use Rattle.mesh_checks.specs.Edges.{Edge, IsOnce}
 
 -- no member stands twice, by recursion

@@ -2,21 +2,22 @@
 use Rattle.std.proofs.Common.{◌≡◌, ◌≢◌, ℕ, suc, ◌<◌, ◌≤◌, ℤ, pos, neg_ℤ, ◌+ℤ◌, ◌*ℤ◌, ◌≤ℤ◌, ◌<ℤ◌, List, [], ◌∷◌, length, map, All, Contains, refl, sym, subst, ◌∙◌, arith, inl, inr}
 use Rattle.std.proofs.lemmas.Int.{ints}
 use Rattle.std.specs.List.{AllPairs}
-use Rattle.integer_laws.specs.Members.{In, In-from_contains, Contains-from_in, All-in, All-from_in, In-map, In-map_cases}
+use Rattle.integer_laws.specs.Members.{In}
+use Rattle.integer_laws.specs.Laws.Members.{In-from_contains, Contains-from_in, All-in, All-from_in, In-map, In-map_cases}
 use Rattle.seq_model.specs.declared.job.Object.{Object}
 use Rattle.seq_model.specs.declared.job.Zone.{Zone}
 use Rattle.seq_model.specs.declared.mesh.Facet.{Facet}
 use Rattle.seq_model.specs.declared.printer.Part.{Part}
 use Rattle.seq_model.specs.declared.printer.Printer.{Printer}
 use Rattle.seq_model.specs.declared.printer.Spot.{Spot}
-use Rattle.seq_model.specs.Bands.{corners, least_z, height_of, band_count}
+use Rattle.seq_model.specs.Bands.{corner_points, least_z, height_of, band_count}
 use Rattle.seq_model.specs.Bounds.{IsNearFacet, IsNearSpot}
 use Rattle.seq_model.specs.Outlines.{Within}
-use Rattle.seq_model.specs.Scenes.{Between, SomeSpot, Spans, scene_of_files, description_of}
+use Rattle.seq_model.specs.Scenes.{Between, SomeSpot, Spans}
 use Rattle.seq_model.specs.Soundness.{IsSoundZone, AreSoundZones, AreExtremes, corners_of}
 use Rattle.integer_laws.specs.Extremes.{least, greatest}
-use Rattle.convex_outline.specs.Corners.{at_spot}
-use Rattle.convex_outline.specs.Means.{within_at_most}
+use Rattle.seq_model.specs.Points.{at_spot}
+use Rattle.convex_outline.specs.Laws.Means.{within_at_most}
 use Rattle.mesh_slices.specs.Objects.{spots_in, IsOutlineOf, HoldsBand, LiesInOneZone, AreZonesOf, IsObjectOf}
 use Rattle.mesh_slices.specs.Runs.{IsRunOf, Holds, AreRunsOf}
 use Rattle.mesh_slices.proofs.Grown.{no_corners}
@@ -77,7 +78,7 @@ sound_zone printer facets n z near r =
     let grain : pos 0 <ℤ printer.grain = omega (arith, ints, p.grain_low) in
     record {
       corners = o.corners;
-      area = outline_has_area printer.grain printer.margin (corners facets printer.step z.first) z.corners grain p.margin_low (points_positive low (low +ℤ printer.step) facets near) (λ e. r.some (no_corners z.corners (subst (λ l. IsOutlineOf l z.corners) e o))) o;
+      area = outline_has_area printer.grain printer.margin (corner_points facets printer.step z.first) z.corners grain p.margin_low (points_positive low (low +ℤ printer.step) facets near) (λ e. r.some (no_corners z.corners (subst (λ l. IsOutlineOf l z.corners) e o))) o;
       near = near_members (IsNearSpot 1_001_000) S z.corners (spots_near printer.grain printer.margin low (low +ℤ printer.step) facets p.grain_low margin p.margin_high near) o.members;
       rises = r.rises;
     }
@@ -121,7 +122,7 @@ high_y : (n : ℤ) (C : List Spot) (s : Spot) → ((c : Spot) → In c C → c.y
 high_y n C s f w = let m = within_at_most (pos 0) (pos 1) n C (at_spot s) (λ c i. let h = f c i in omega (arith, ints)) w in omega (arith, ints)
 
 module _ (printer : Printer) (facets : List Facet) (n : ℕ) (zones : List Zone) (low high : Spot) (count : n ≡ band_count facets printer.step) (runs : AreRunsOf (spots_in printer facets) n zones)
-    (spans : Spans (scene_of_files (description_of printer []) (facets ∷ [])) 0 low high) where
+    (spans : Spans n (spots_in printer facets) low high) where
   abbrev S : ℕ → List Spot
   S = spots_in printer facets
 
@@ -133,7 +134,7 @@ module _ (printer : Printer) (facets : List Facet) (n : ℕ) (zones : List Zone)
       let p = run.rises in
       let q = run.below_count in
       let h : z.first < n = omega arith in
-      All-in (Between low high) (S z.first) s (spans.holds z.first (subst (λ k. z.first < k) count h)) (In-from_contains (S z.first) s (All-in (Contains (S z.first)) z.corners s o.members j))
+      All-in (Between low high) (S z.first) s (spans.holds z.first h) (In-from_contains (S z.first) s (All-in (Contains (S z.first)) z.corners s o.members j))
 
   corners_between : (P : Spot → Type 0) → ((s : Spot) → Between low high s → P s) → AllCorners P zones
   corners_between P f = All-from_in (λ z. All P z.corners) zones (λ z i. All-from_in P z.corners (λ s j. f s (corner_between z i s j)))
@@ -148,9 +149,9 @@ module _ (printer : Printer) (facets : List Facet) (n : ℕ) (zones : List Zone)
     within : Within zone.corners (at_spot spot)
     so : P spot
 
-  seen : (P : Spot → Type 0) → SomeSpot (scene_of_files (description_of printer []) (facets ∷ [])) 0 P → Seen P
+  seen : (P : Spot → Type 0) → SomeSpot n S P → Seen P
   seen P w =
-      let held = runs.held w.band (subst (λ k. w.band < k) (sym count) w.below_count) (filled (S w.band) w.spot w.member) in
+      let held = runs.held w.band w.below_count (filled (S w.band) w.spot w.member) in
       let o = (All-in (IsRunOf S n) zones held.zone runs.each held.member).outline w.band held.holds in
       record {
         spot = w.spot;
@@ -212,7 +213,7 @@ module _ (printer : Printer) (facets : List Facet) (n : ℕ) (zones : List Zone)
 
 -- ---- the object
 pub object_is : (printer : Printer) (facets : List Facet) (name : List ℕ) (o : Object) → All IsNearFacet facets → o.name ≡ name → o.height ≡ height_of facets → o.bands ≡ band_count facets printer.step → o.bands ≤ 200
-    → AreRunsOf (spots_in printer facets) o.bands o.zones → ((listed : List Part) → Spans (scene_of_files (description_of printer listed) (facets ∷ [])) 0 o.low o.high) → IsObjectOf name facets printer o
+    → AreRunsOf (spots_in printer facets) o.bands o.zones → Spans o.bands (spots_in printer facets) o.low o.high → IsObjectOf name facets printer o
 object_is printer facets name o near named height bands few runs spans = record {
   named = named;
   height = height;
@@ -221,7 +222,7 @@ object_is printer facets name o near named height bands few runs spans = record 
   spans = spans;
   sound = record {
     few_bands = few;
-    zones = sound_zones printer facets o.bands o.zones o.low o.high bands runs (spans []) near;
-    extremes = extremes_are printer facets o.bands o.zones o.low o.high bands runs (spans []);
+    zones = sound_zones printer facets o.bands o.zones o.low o.high bands runs spans near;
+    extremes = extremes_are printer facets o.bands o.zones o.low o.high bands runs spans;
   };
 }

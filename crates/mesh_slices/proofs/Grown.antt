@@ -6,12 +6,13 @@ use Rattle.std.proofs.lemmas.Bool.{cases_lt}
 use Rattle.std.proofs.lemmas.List.Elements.{All-nil, All-cons, All-append}
 use Rattle.std.proofs.lemmas.List.Quantifiers.{all_pairs_push}
 use Rattle.std.specs.List.{AllPairs}
-use Rattle.integer_laws.specs.Members.{In, In-from_contains, In-append_left, In-append_right, In-append_cases, All-in, All-from_in}
+use Rattle.integer_laws.specs.Members.{In}
+use Rattle.integer_laws.specs.Laws.Members.{In-from_contains, In-append_left, In-append_right, In-append_cases, All-in, All-from_in}
 use Rattle.seq_model.specs.declared.job.Zone.{Zone}
 use Rattle.seq_model.specs.declared.printer.Spot.{Spot}
 use Rattle.seq_model.specs.Outlines.{Within}
-use Rattle.convex_outline.specs.Corners.{at_spot}
-use Rattle.convex_outline.specs.Laws.{no_mean}
+use Rattle.seq_model.specs.Points.{at_spot}
+use Rattle.convex_outline.specs.Laws.Within.{no_mean}
 use Rattle.mesh_slices.specs.Objects.{IsOutlineOf, HoldsBand}
 use Rattle.mesh_slices.specs.Runs.{IsRunOf, Holds, AreRunsOf}
 

@@ -3,13 +3,13 @@ use Rattle.std.proofs.Common.{◌≡◌, ℕ, ℤ, pos, ◌+ℤ◌, ◌-ℤ◌, 
 use Rattle.std.proofs.lemmas.Int.{ints}
 use Rattle.std.proofs.lemmas.List.Elements.{All-nil, All-cons, All-append}
 use Rattle.std.specs.Int.Signed.{lt_z, le_z}
-use Rattle.integer_laws.specs.Order.{mul_le, mul_positive, add_le, le_from}
-use Rattle.integer_laws.specs.Ring.{expand}
-use Rattle.integer_laws.specs.Quotients.{floor_below, ceil_above, floor_le_ceil}
+use Rattle.integer_laws.specs.Laws.Order.{mul_le, mul_positive, add_le, le_from}
+use Rattle.integer_laws.specs.Laws.Ring.{expand}
+use Rattle.integer_laws.specs.Laws.Quotients.{floor_below, ceil_above, floor_le_ceil}
 use Rattle.seq_model.specs.declared.mesh.Point3.{Point3}
 use Rattle.seq_model.specs.declared.mesh.Facet.{Facet}
 use Rattle.seq_model.specs.declared.printer.Spot.{Spot}
-use Rattle.seq_model.specs.Bands.{vertex_in, crossing_up, crossing, crossings, facet_corners, corners, least_z}
+use Rattle.seq_model.specs.Bands.{vertex_in, crossing_up, crossing, crossings, facet_corners, corner_points, least_z}
 use Rattle.seq_model.specs.Outlines.{below, above, four_spots, spots}
 use Rattle.seq_model.specs.Points.{Point}
 use Rattle.seq_model.specs.Scenes.{Between}
@@ -119,8 +119,8 @@ of_four grain margin low high p g m a =
     (record { west = omega (arith, ints, wide, west); east = east; south = omega (arith, ints, deep, south); north = north })
 
 pub all_between : (grain step margin : ℤ) (low high : Point3) (facets : List Facet) (b : ℕ) → pos 0 <ℤ grain → pos 0 ≤ℤ margin → All (AroundFacet low high) facets
-    → All (Between (spot_below grain margin low) (spot_above grain margin high)) (spots grain margin (corners facets step b))
+    → All (Between (spot_below grain margin low) (spot_above grain margin high)) (spots grain margin (corner_points facets step b))
 all_between grain step margin low high facets b g m around =
     let from = least_z facets +ℤ step *ℤ pos b in
-    all_flat (AroundPoint low high) (Between (spot_below grain margin low) (spot_above grain margin high)) (four_spots grain margin) (λ p a. of_four grain margin low high p g m a) (corners facets step b)
+    all_flat (AroundPoint low high) (Between (spot_below grain margin low) (spot_above grain margin high)) (four_spots grain margin) (λ p a. of_four grain margin low high p g m a) (corner_points facets step b)
     (all_flat (AroundFacet low high) (AroundPoint low high) (facet_corners from (from +ℤ step)) (λ f a. of_facet low high from (from +ℤ step) f a) facets around)

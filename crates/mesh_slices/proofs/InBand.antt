@@ -2,9 +2,10 @@
 use Rattle.std.proofs.Common.{◌≡◌, ℕ, suc, ◌<◌, ◌≤◌, max, ℤ, pos, negsuc, ◌+ℤ◌, ◌*ℤ◌, ◌≤ℤ◌, ◌<ℤ◌, unsigned_abs, subst, zero, arith, ⊎_elim}
 use Rattle.std.proofs.lemmas.Bool.{cases_lt}
 use Rattle.std.proofs.lemmas.Int.{ints}
-use Rattle.integer_laws.specs.Order.{mul_le}
-use Rattle.integer_laws.specs.Ring.{mul-zero, expand}
-use Rattle.integer_laws.specs.Quotients.{floor, ceil, floor_is, ceil_is, least_quotient}
+use Rattle.integer_laws.specs.Laws.Order.{mul_le}
+use Rattle.integer_laws.specs.Laws.Ring.{mul-zero, expand}
+use Rattle.integer_laws.specs.Quotients.{floor, ceil}
+use Rattle.integer_laws.specs.Laws.Quotients.{floor_is, ceil_is, least_quotient}
 
 -- t, measured from the least z, lies in this band, which is one of so many
 pub record InBand (step t : ℤ) (count : ℕ) : Type 0 where

@@ -1,8 +1,9 @@
 -- The spots of near facets are near.
 use Rattle.std.proofs.Common.{ℤ, pos, neg_ℤ, ◌*ℤ◌, ◌≤ℤ◌, ◌<ℤ◌, List, All, arith, flat_map}
 use Rattle.std.proofs.lemmas.Int.{ints}
-use Rattle.integer_laws.specs.Members.{All-in, All-from_in}
-use Rattle.integer_laws.specs.Quotients.{floor, floor_is, least_quotient}
+use Rattle.integer_laws.specs.Laws.Members.{All-in, All-from_in}
+use Rattle.integer_laws.specs.Quotients.{floor}
+use Rattle.integer_laws.specs.Laws.Quotients.{floor_is, least_quotient}
 use Rattle.seq_model.specs.declared.mesh.Point3.{Point3}
 use Rattle.seq_model.specs.declared.mesh.Facet.{Facet}
 use Rattle.seq_model.specs.declared.printer.Spot.{Spot}
@@ -67,8 +68,8 @@ points_positive from to facets near =
     let all = all_flat IsNearFacet (AroundPoint far_low far_high) (facet_corners from to) (λ f k. of_facet far_low far_high from to f (around_facet f k)) facets near in
     All-from_in (λ p. pos 0 <ℤ p.d) points (λ p i. (All-in (AroundPoint far_low far_high) points p all i).over)
 
-pub near_enough : (S : List Spot) → All (IsNearSpot 1_001_000) S → All Corners.IsNear S
-near_enough S all = All-from_in Corners.IsNear S (λ s i. near s (All-in (IsNearSpot 1_001_000) S s all i))
+pub near_enough : (S : List Spot) → All (IsNearSpot 1_001_000) S → All Corners.IsNarrow S
+near_enough S all = All-from_in Corners.IsNarrow S (λ s i. near s (All-in (IsNearSpot 1_001_000) S s all i))
   where
-    near : (s : Spot) → IsNearSpot 1_001_000 s → Corners.IsNear s
+    near : (s : Spot) → IsNearSpot 1_001_000 s → Corners.IsNarrow s
     near s n = let x = n.x in let y = n.y in (omega (arith, ints), omega (arith, ints))

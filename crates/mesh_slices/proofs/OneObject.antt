@@ -3,7 +3,8 @@ use Rattle.std.proofs.Common.{◌≡◌, ◌≢◌, ℕ, ◌+◌, ◌<◌, ◌�
 use Rattle.std.proofs.lemmas.Bool.{cases_lt}
 use Rattle.std.proofs.lemmas.Int.{ints}
 use Rattle.std.specs.List.{AllPairs}
-use Rattle.integer_laws.specs.Members.{In, In-from_contains, All-in, All-from_in}
+use Rattle.integer_laws.specs.Members.{In}
+use Rattle.integer_laws.specs.Laws.Members.{In-from_contains, All-in, All-from_in}
 use Rattle.seq_model.specs.declared.job.Object.{Object}
 use Rattle.seq_model.specs.declared.job.Zone.{Zone}
 use Rattle.seq_model.specs.declared.mesh.Facet.{Facet}
@@ -13,7 +14,7 @@ use Rattle.seq_model.specs.Scenes.{Scene, Between, Spans, scene_of_files, descri
 use Rattle.seq_model.specs.Soundness.{IsSoundZone, AreSoundZones}
 use Rattle.mesh_slices.specs.Objects.{spots_in, IsOutlineOf, HoldsBand, AreZonesOf, IsObjectOf}
 use Rattle.mesh_slices.specs.Runs.{IsRunOf, Holds, AreRunsOf}
-use Rattle.mesh_slices.specs.Unique.{one_outline}
+use Rattle.mesh_slices.specs.Laws.Unique.{one_outline}
 use Rattle.mesh_slices.proofs.Assembled.{Rise, first_pairs, rest_pairs}
 use Rattle.mesh_slices.proofs.Grown.{no_corners}
 
@@ -183,27 +184,27 @@ at_most a b c h e = subst (λ x. x ≤ℤ a) e h
 spot_is : (s t : Spot) → s.x ≤ℤ t.x → t.x ≤ℤ s.x → s.y ≤ℤ t.y → t.y ≤ℤ s.y → s ≡ t
 spot_is s t a b c d = let x : s.x ≡ t.x = omega (arith, ints) in let y : s.y ≡ t.y = omega (arith, ints) in ap₂ (λ p q. record { x = p; y = q }) x y
 
-module _ (scene : Scene) (low high low' high' : Spot) (s : Spans scene 0 low high) where
-  between : (b : ℕ) (p : Spot) → b < scene.bands 0 → Contains (scene.spots 0 b) p → Between low high p
-  between b p h c = All-in (Between low high) (scene.spots 0 b) p (s.holds b h) (In-from_contains (scene.spots 0 b) p c)
+module _ (bands : ℕ) (S : ℕ → List Spot) (low high low' high' : Spot) (s : Spans bands S low high) where
+  between : (b : ℕ) (p : Spot) → b < bands → Contains (S b) p → Between low high p
+  between b p h c = All-in (Between low high) (S b) p (s.holds b h) (In-from_contains (S b) p c)
 
-  pub west_to : Spans scene 0 low' high' → low.x ≤ℤ low'.x
+  pub west_to : Spans bands S low' high' → low.x ≤ℤ low'.x
   west_to t = let w = t.west in at_least low.x low'.x w.spot.x (between w.band w.spot w.below_count w.member).west w.so
 
-  pub south_to : Spans scene 0 low' high' → low.y ≤ℤ low'.y
+  pub south_to : Spans bands S low' high' → low.y ≤ℤ low'.y
   south_to t = let w = t.south in at_least low.y low'.y w.spot.y (between w.band w.spot w.below_count w.member).south w.so
 
-  pub east_to : Spans scene 0 low' high' → high'.x ≤ℤ high.x
+  pub east_to : Spans bands S low' high' → high'.x ≤ℤ high.x
   east_to t = let w = t.east in at_most high.x high'.x w.spot.x (between w.band w.spot w.below_count w.member).east w.so
 
-  pub north_to : Spans scene 0 low' high' → high'.y ≤ℤ high.y
+  pub north_to : Spans bands S low' high' → high'.y ≤ℤ high.y
   north_to t = let w = t.north in at_most high.y high'.y w.spot.y (between w.band w.spot w.below_count w.member).north w.so
 
-same_low : (scene : Scene) (low high low' high' : Spot) → Spans scene 0 low high → Spans scene 0 low' high' → low ≡ low'
-same_low scene low high low' high' s t = spot_is low low' (west_to scene low high low' high' s t) (west_to scene low' high' low high t s) (south_to scene low high low' high' s t) (south_to scene low' high' low high t s)
+same_low : (bands : ℕ) (S : ℕ → List Spot) (low high low' high' : Spot) → Spans bands S low high → Spans bands S low' high' → low ≡ low'
+same_low bands S low high low' high' s t = spot_is low low' (west_to bands S low high low' high' s t) (west_to bands S low' high' low high t s) (south_to bands S low high low' high' s t) (south_to bands S low' high' low high t s)
 
-same_high : (scene : Scene) (low high low' high' : Spot) → Spans scene 0 low high → Spans scene 0 low' high' → high ≡ high'
-same_high scene low high low' high' s t = spot_is high high' (east_to scene low' high' low high t s) (east_to scene low high low' high' s t) (north_to scene low' high' low high t s) (north_to scene low high low' high' s t)
+same_high : (bands : ℕ) (S : ℕ → List Spot) (low high low' high' : Spot) → Spans bands S low high → Spans bands S low' high' → high ≡ high'
+same_high bands S low high low' high' s t = spot_is high high' (east_to bands S low' high' low high t s) (east_to bands S low high low' high' s t) (north_to bands S low' high' low high t s) (north_to bands S low high low' high' s t)
 
 -- ---- the object
 object_same : (o q : Object) → o.name ≡ q.name → o.height ≡ q.height → o.bands ≡ q.bands → o.low ≡ q.low → o.high ≡ q.high → o.zones ≡ q.zones → o ≡ q
@@ -215,8 +216,8 @@ object_same o q n h b l t z =
 pub one_object : (name : List ℕ) (facets : List Facet) (printer : Printer) (o q : Object) → IsObjectOf name facets printer o → IsObjectOf name facets printer q → o ≡ q
 one_object name facets printer o q a b =
     let S = spots_in printer facets in
-    let scene = scene_of_files (description_of printer []) (facets ∷ []) in
     let bands = a.bands ∙ sym b.bands in
+    let spans = subst (λ n. Spans n S q.low q.high) (sym bands) b.spans in
     let runs = from_zero S q.bands q.zones (runs_of S q.bands q.zones b.zones b.sound.zones) in
-    object_same o q (a.named ∙ sym b.named) (a.height ∙ sym b.height) bands (same_low scene o.low o.high q.low q.high (a.spans []) (b.spans [])) (same_high scene o.low o.high q.low q.high (a.spans []) (b.spans []))
+    object_same o q (a.named ∙ sym b.named) (a.height ∙ sym b.height) bands (same_low o.bands S o.low o.high q.low q.high a.spans spans) (same_high o.bands S o.low o.high q.low q.high a.spans spans)
     (same_zones S o.bands 0 o.zones q.zones (from_zero S o.bands o.zones (runs_of S o.bands o.zones a.zones a.sound.zones)) (subst (λ n. RunsFrom S n 0 q.zones) (sym bands) runs))

@@ -5,14 +5,15 @@ use Rattle.std.proofs.lemmas.Int.{ints}
 use Rattle.std.proofs.lemmas.List.Elements.{All-nil, All-append}
 use Rattle.seq_model.specs.Bounds.{IsPrinter, IsNearFacet}
 use Rattle.mesh_slices.proofs.Nearness.{near_enough, facet_near}
-use Rattle.integer_laws.specs.Members.{In-from_contains, Contains-from_in, All-in, All-from_in}
+use Rattle.integer_laws.specs.Laws.Members.{In-from_contains, Contains-from_in, All-in, All-from_in}
 use Rattle.seq_model.specs.declared.printer.Spot.{Spot}
-use Rattle.seq_model.specs.Points.{Point}
+use Rattle.seq_model.specs.Points.{Point, at_spot}
 use Rattle.seq_model.specs.declared.mesh.Facet.{Facet}
 use Rattle.seq_model.specs.Bands.{facet_corners}
 use Rattle.seq_model.specs.Outlines.{below, above, four_spots, spots, Within}
-use Rattle.convex_outline.specs.Corners.{AreCorners, at_spot, IsNear}
-use Rattle.mesh_slices.specs.Folding.{StandsFor, stands_itself, stands_trans, stands_joined, inner_stands, inner_back}
+use Rattle.convex_outline.specs.Corners.{AreCorners, IsNarrow}
+use Rattle.mesh_slices.specs.Folding.{StandsFor}
+use Rattle.mesh_slices.specs.Laws.Folding.{stands_itself, stands_trans, stands_joined, inner_stands, inner_back}
 use Rattle.mesh_slices.specs.Objects.{IsOutlineOf}
 
 pub hull_stands : (S C : List Spot) → All (Contains S) C → All (λ s. Within C (at_spot s)) S → StandsFor S C
@@ -31,8 +32,8 @@ refilled C N E L n e l = sym (n ∙ ap (λ x. x ++ L) e ∙ l)
 pub folded : (S T C N E L : List Spot) → T ≡ S → All (Contains T) C → All (λ s. Within C (at_spot s)) T → N ≡ E ++ L → E ≡ [] → L ≡ C → StandsFor S N
 folded S T C N E L t members within n e l = subst (λ X. StandsFor X N) t (subst (StandsFor T) (refilled C N E L n e l) (hull_stands T C members within))
 
-pub folded_near : (S T C N E L : List Spot) → T ≡ S → All IsNear S → All (Contains T) C → N ≡ E ++ L → E ≡ [] → L ≡ C → All IsNear N
-folded_near S T C N E L t near members n e l = subst (All IsNear) (refilled C N E L n e l) (near_members IsNear T C (subst (All IsNear) (sym t) near) members)
+pub folded_near : (S T C N E L : List Spot) → T ≡ S → All IsNarrow S → All (Contains T) C → N ≡ E ++ L → E ≡ [] → L ≡ C → All IsNarrow N
+folded_near S T C N E L t near members n e l = subst (All IsNarrow) (refilled C N E L n e l) (near_members IsNarrow T C (subst (All IsNarrow) (sym t) near) members)
 
 -- ---- facet by facet
 abbrev pub left : ℤ → ℤ → ℤ → ℤ → List Facet → List Spot
@@ -44,13 +45,13 @@ left_next grain margin low high f fs = flat_map-append (four_spots grain margin)
 pub start : (S B : List Spot) → B ≡ [] → StandsFor S (B ++ S)
 start S B e = subst (λ X. StandsFor S (X ++ S)) (sym e) (stands_itself S)
 
-pub near_start : (B : List Spot) → B ≡ [] → All IsNear B
-near_start B e = subst (All IsNear) (sym e) (All-nil IsNear)
+pub near_start : (B : List Spot) → B ≡ [] → All IsNarrow B
+near_start B e = subst (All IsNarrow) (sym e) (All-nil IsNarrow)
 
-pub near_added : (grain width depth step margin low high : ℤ) (grid : ℕ) (f : Facet) (B T : List Spot) → IsPrinter grain width depth step margin grid → IsNearFacet f → T ≡ B ++ spots grain margin (facet_corners low high f) → All IsNear B → All IsNear T
+pub near_added : (grain width depth step margin low high : ℤ) (grid : ℕ) (f : Facet) (B T : List Spot) → IsPrinter grain width depth step margin grid → IsNearFacet f → T ≡ B ++ spots grain margin (facet_corners low high f) → All IsNarrow B → All IsNarrow T
 near_added grain width depth step margin low high grid f B T p n t near =
     let m = p.margin_low in
-    subst (All IsNear) (sym t) (All-append IsNear B (spots grain margin (facet_corners low high f)) near (near_enough (spots grain margin (facet_corners low high f)) (facet_near grain margin low high f p.grain_low (omega (arith, ints)) p.margin_high n)))
+    subst (All IsNarrow) (sym t) (All-append IsNarrow B (spots grain margin (facet_corners low high f)) near (near_enough (spots grain margin (facet_corners low high f)) (facet_near grain margin low high f p.grain_low (omega (arith, ints)) p.margin_high n)))
 
 -- one more facet is added, and what is found may be folded
 pub one_more : (grain margin low high : ℤ) (f : Facet) (fs : List Facet) (S B T N : List Spot) → T ≡ B ++ spots grain margin (facet_corners low high f) → StandsFor T N

@@ -1,17 +1,17 @@
 -- Spots round corner points have area, and so has their outline.
 use Rattle.std.proofs.Common.{◌≢◌, ◌≤◌, ℤ, pos, ◌-ℤ◌, ◌*ℤ◌, ◌≤ℤ◌, ◌<ℤ◌, List, [], ◌∷◌, length, All, refl, arith, inl}
 use Rattle.std.proofs.lemmas.Int.{ints}
-use Rattle.integer_laws.specs.Members.{All-in}
-use Rattle.integer_laws.specs.Order.{lt_from, mul_positive}
-use Rattle.integer_laws.specs.Ring.{expand}
-use Rattle.integer_laws.specs.Quotients.{floor_le_ceil}
+use Rattle.integer_laws.specs.Laws.Members.{All-in}
+use Rattle.integer_laws.specs.Laws.Order.{lt_from, mul_positive}
+use Rattle.integer_laws.specs.Laws.Ring.{expand}
+use Rattle.integer_laws.specs.Laws.Quotients.{floor_le_ceil}
 use Rattle.seq_model.specs.declared.printer.Spot.{Spot}
 use Rattle.seq_model.specs.Outlines.{below, above, spots}
 use Rattle.seq_model.specs.Points.{Point}
-use Rattle.convex_outline.specs.Area.{three_of_area}
+use Rattle.convex_outline.specs.Laws.Area.{three_of_area}
 use Rattle.convex_outline.specs.Corners.{HasArea}
 use Rattle.mesh_slices.specs.Objects.{IsOutlineOf}
-use Rattle.mesh_slices.specs.Unique.{hull_of_outline}
+use Rattle.mesh_slices.specs.Laws.Unique.{hull_of_outline}
 
 area_of_four : (grain margin : ℤ) (p : Point) (rest : List Spot) → pos 0 <ℤ grain → pos 1 ≤ℤ margin → pos 0 <ℤ p.d
     → HasArea (record { x = below margin p.x (p.d *ℤ grain); y = below margin p.y (p.d *ℤ grain) } ∷ record { x = above margin p.x (p.d *ℤ grain); y = below margin p.y (p.d *ℤ grain) } ∷ record { x = below margin p.x (p.d *ℤ grain); y = above margin p.y (p.d *ℤ grain) } ∷ rest)

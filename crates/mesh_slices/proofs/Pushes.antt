@@ -3,7 +3,7 @@ use Rattle.std.proofs.Common.{◌≡◌, ◌≤◌, Bool, true, false, ℤ, pos,
 use Rattle.std.proofs.Math.Dec.{T}
 use Rattle.std.proofs.lemmas.Int.{ints, unsigned_abs-mul}
 use Rattle.std.specs.Int.Signed.{lt_z}
-use Rattle.integer_laws.specs.Order.{one_le, mul_positive}
+use Rattle.integer_laws.specs.Laws.Order.{one_le, mul_positive}
 use Rattle.seq_model.specs.declared.mesh.Point3.{Point3}
 use Rattle.seq_model.specs.Bands.{crossing_up}
 use Rattle.seq_model.specs.Points.{Point}

@@ -3,19 +3,21 @@ use Rattle.std.proofs.Common.{◌≡◌, ℕ, Bool, true, false, ◌<◌, ℤ, p
 use Rattle.std.proofs.lemmas.Int.{ints}
 use Rattle.std.proofs.lemmas.List.Elements.{Contains-append_left, Contains-append_right}
 use Rattle.std.specs.Int.Signed.{le_z}
-use Rattle.integer_laws.specs.Ring.{one-mul}
+use Rattle.integer_laws.specs.Laws.Ring.{one-mul}
 use Rattle.seq_model.specs.declared.mesh.Point3.{Point3}
 use Rattle.seq_model.specs.declared.mesh.Facet.{Facet}
 use Rattle.seq_model.specs.declared.printer.Spot.{Spot}
 use Rattle.seq_model.specs.declared.printer.Part.{Part}
 use Rattle.seq_model.specs.declared.printer.Printer.{Printer}
-use Rattle.seq_model.specs.Bands.{vertices, vertex_in, crossings, facet_corners, corners, heights, least_z, height_of, band_count}
+use Rattle.seq_model.specs.Bands.{vertices, vertex_in, crossings, facet_corners, corner_points, heights, least_z, height_of, band_count}
 use Rattle.seq_model.specs.Bounds.{IsPrinter}
 use Rattle.integer_laws.specs.Extremes.{least, greatest}
 use Rattle.seq_model.specs.Outlines.{below, above, four_spots, spots}
 use Rattle.seq_model.specs.Points.{Point}
 use Rattle.seq_model.specs.Scenes.{Scene, SomeSpot, Spans, scene_of_files, description_of}
-use Rattle.integer_laws.specs.Members.{In, In-from_contains, In-map, All-in, All-from_in}
+use Rattle.integer_laws.specs.Members.{In}
+use Rattle.integer_laws.specs.Laws.Members.{In-from_contains, In-map, All-in, All-from_in}
+use Rattle.mesh_slices.specs.Objects.{spots_in}
 use Rattle.mesh_slices.proofs.Members.{at_head, to_flat}
 use Rattle.mesh_slices.proofs.Running.{at, Running, reaches_least, reaches_greatest, least_below, greatest_above}
 use Rattle.mesh_slices.proofs.InBand.{band_of}
@@ -99,7 +101,7 @@ facet_there from to v f m h k =
 pub record Seen (grain step margin : ℤ) (facets : List Facet) (v : Point3) : Type 0 where
   pub band : ℕ
   pub below_count : band < band_count facets step
-  pub four : (s : Spot) → Contains (four_spots grain margin (point_of v)) s → Contains (spots grain margin (corners facets step band)) s
+  pub four : (s : Spot) → Contains (four_spots grain margin (point_of v)) s → Contains (spots grain margin (corner_points facets step band)) s
 
 seen : (grain step margin : ℤ) (facets : List Facet) (v : Point3) → pos 0 <ℤ step → In v (vertices facets) → Seen grain step margin facets v
 seen grain step margin facets v p m =
@@ -113,7 +115,7 @@ seen grain step margin facets v p m =
     record {
       band = b.band;
       below_count = b.below_count;
-      four = λ s c. to_flat (four_spots grain margin) s (point_of v) (corners facets step b.band) (In-from_contains (corners facets step b.band) (point_of v) there) c;
+      four = λ s c. to_flat (four_spots grain margin) s (point_of v) (corner_points facets step b.band) (In-from_contains (corner_points facets step b.band) (point_of v) there) c;
     }
 
 -- the first and the last of the four
@@ -124,26 +126,27 @@ last_spot : (grain margin : ℤ) (v : Point3) → Contains (four_spots grain mar
 last_spot grain margin v = (3, omega arith, refl)
 
 -- the spots round a vertex, at the least and at the greatest corner of the four
-some_below : (printer : Printer) (listed : List Part) (facets : List Facet) (v : Point3) → pos 0 <ℤ printer.step → In v (vertices facets)
-    → SomeSpot (scene_of_files (description_of printer listed) (facets ∷ [])) 0 (λ s. s ≡ spot_below printer.grain printer.margin v)
-some_below printer listed facets v p m =
+some_below : (printer : Printer) (facets : List Facet) (v : Point3) → pos 0 <ℤ printer.step → In v (vertices facets)
+    → SomeSpot (band_count facets printer.step) (spots_in printer facets) (λ s. s ≡ spot_below printer.grain printer.margin v)
+some_below printer facets v p m =
     let s = seen printer.grain printer.step printer.margin facets v p m in
     record { band = s.band; spot = spot_below (pos 1 *ℤ printer.grain) printer.margin v; below_count = s.below_count; member = s.four (spot_below (pos 1 *ℤ printer.grain) printer.margin v) (first_spot printer.grain printer.margin v); so = ap (λ g. spot_below g printer.margin v) (one-mul printer.grain) }
 
-some_above : (printer : Printer) (listed : List Part) (facets : List Facet) (v : Point3) → pos 0 <ℤ printer.step → In v (vertices facets)
-    → SomeSpot (scene_of_files (description_of printer listed) (facets ∷ [])) 0 (λ s. s ≡ spot_above printer.grain printer.margin v)
-some_above printer listed facets v p m =
+some_above : (printer : Printer) (facets : List Facet) (v : Point3) → pos 0 <ℤ printer.step → In v (vertices facets)
+    → SomeSpot (band_count facets printer.step) (spots_in printer facets) (λ s. s ≡ spot_above printer.grain printer.margin v)
+some_above printer facets v p m =
     let s = seen printer.grain printer.step printer.margin facets v p m in
     record { band = s.band; spot = spot_above (pos 1 *ℤ printer.grain) printer.margin v; below_count = s.below_count; member = s.four (spot_above (pos 1 *ℤ printer.grain) printer.margin v) (last_spot printer.grain printer.margin v); so = ap (λ g. spot_above g printer.margin v) (one-mul printer.grain) }
 
 -- what one spot is, so is what follows from it
-so_too : (scene : Scene) (o : ℕ) (P Q : Spot → Type 0) → ((s : Spot) → P s → Q s) → SomeSpot scene o P → SomeSpot scene o Q
-so_too scene o P Q f h = record { band = h.band; spot = h.spot; below_count = h.below_count; member = h.member; so = f h.spot h.so }
+so_too : (bands : ℕ) (S : ℕ → List Spot) (P Q : Spot → Type 0) → ((s : Spot) → P s → Q s) → SomeSpot bands S P → SomeSpot bands S Q
+so_too bands S P Q f h = record { band = h.band; spot = h.spot; below_count = h.below_count; member = h.member; so = f h.spot h.so }
 
-pub spans : (printer : Printer) (listed : List Part) (facets : List Facet) (low high : Point3) → pos 0 <ℤ printer.grain → pos 0 ≤ℤ printer.margin → pos 0 <ℤ printer.step → 0 < length facets → Running facets [] low high
-    → Spans (scene_of_files (description_of printer listed) (facets ∷ [])) 0 (spot_below printer.grain printer.margin low) (spot_above printer.grain printer.margin high)
-spans printer listed facets low high g m p some kept =
-    let scene = scene_of_files (description_of printer listed) (facets ∷ []) in
+pub spans : (printer : Printer) (facets : List Facet) (low high : Point3) → pos 0 <ℤ printer.grain → pos 0 ≤ℤ printer.margin → pos 0 <ℤ printer.step → 0 < length facets → Running facets [] low high
+    → Spans (band_count facets printer.step) (spots_in printer facets) (spot_below printer.grain printer.margin low) (spot_above printer.grain printer.margin high)
+spans printer facets low high g m p some kept =
+    let bands = band_count facets printer.step in
+    let S = spots_in printer facets in
     let grain = printer.grain in
     let margin = printer.margin in
     let wx = reaches_least (λ p. p.x) facets some in
@@ -152,10 +155,10 @@ spans printer listed facets low high g m p some kept =
     let ny = reaches_greatest (λ p. p.y) facets some in
     record {
       holds = λ b h. all_between grain printer.step margin low high facets b g m (around_facets facets low high kept);
-      west = so_too scene 0 (λ s. s ≡ spot_below grain margin wx.vertex) (λ s. s.x ≡ below margin low.x grain) (λ s e. ap (λ (t : Spot). t.x) e ∙ ap (λ x. below margin x grain) (wx.is ∙ sym kept.x.low_so_far)) (some_below printer listed facets wx.vertex p wx.member);
-      east = so_too scene 0 (λ s. s ≡ spot_above grain margin ex.vertex) (λ s. s.x ≡ above margin high.x grain) (λ s e. ap (λ (t : Spot). t.x) e ∙ ap (λ x. above margin x grain) (ex.is ∙ sym kept.x.high_so_far)) (some_above printer listed facets ex.vertex p ex.member);
-      south = so_too scene 0 (λ s. s ≡ spot_below grain margin sy.vertex) (λ s. s.y ≡ below margin low.y grain) (λ s e. ap (λ (t : Spot). t.y) e ∙ ap (λ x. below margin x grain) (sy.is ∙ sym kept.y.low_so_far)) (some_below printer listed facets sy.vertex p sy.member);
-      north = so_too scene 0 (λ s. s ≡ spot_above grain margin ny.vertex) (λ s. s.y ≡ above margin high.y grain) (λ s e. ap (λ (t : Spot). t.y) e ∙ ap (λ x. above margin x grain) (ny.is ∙ sym kept.y.high_so_far)) (some_above printer listed facets ny.vertex p ny.member);
+      west = so_too bands S (λ s. s ≡ spot_below grain margin wx.vertex) (λ s. s.x ≡ below margin low.x grain) (λ s e. ap (λ (t : Spot). t.x) e ∙ ap (λ x. below margin x grain) (wx.is ∙ sym kept.x.low_so_far)) (some_below printer facets wx.vertex p wx.member);
+      east = so_too bands S (λ s. s ≡ spot_above grain margin ex.vertex) (λ s. s.x ≡ above margin high.x grain) (λ s e. ap (λ (t : Spot). t.x) e ∙ ap (λ x. above margin x grain) (ex.is ∙ sym kept.x.high_so_far)) (some_above printer facets ex.vertex p ex.member);
+      south = so_too bands S (λ s. s ≡ spot_below grain margin sy.vertex) (λ s. s.y ≡ below margin low.y grain) (λ s e. ap (λ (t : Spot). t.y) e ∙ ap (λ x. below margin x grain) (sy.is ∙ sym kept.y.low_so_far)) (some_below printer facets sy.vertex p sy.member);
+      north = so_too bands S (λ s. s ≡ spot_above grain margin ny.vertex) (λ s. s.y ≡ above margin high.y grain) (λ s e. ap (λ (t : Spot). t.y) e ∙ ap (λ x. above margin x grain) (ny.is ∙ sym kept.y.high_so_far)) (some_above printer facets ny.vertex p ny.member);
     }
 
 spot_is : (s : Spot) (x y : ℤ) → s.x ≡ x → s.y ≡ y → record { x = x; y = y } ≡ s
@@ -165,8 +168,9 @@ spot_is s x y e f = rw (← e, ← f) refl
 pub spans_of : (printer : Printer) (facets : List Facet) (low high : Point3) (west_south east_north : Spot) → IsPrinter printer.grain printer.width printer.depth printer.step printer.margin printer.grid → 0 < length facets → Running facets [] low high
     → west_south.x ≡ below printer.margin low.x printer.grain → west_south.y ≡ below printer.margin low.y printer.grain
     → east_north.x ≡ above printer.margin high.x printer.grain → east_north.y ≡ above printer.margin high.y printer.grain
-    → (listed : List Part) → Spans (scene_of_files (description_of printer listed) (facets ∷ [])) 0 west_south east_north
-spans_of printer facets low high ws en ranged some kept wx wy ex ey listed =
-    let s = spans printer listed facets low high (omega (arith, ints, ranged.grain_low)) (omega (arith, ints, ranged.margin_low)) (omega (arith, ints, ranged.step_low)) some kept in
-    let scene = scene_of_files (description_of printer listed) (facets ∷ []) in
-    subst (λ a. Spans scene 0 a en) (spot_is ws _ _ wx wy) (subst (λ b. Spans scene 0 (spot_below printer.grain printer.margin low) b) (spot_is en _ _ ex ey) s)
+    → Spans (band_count facets printer.step) (spots_in printer facets) west_south east_north
+spans_of printer facets low high ws en ranged some kept wx wy ex ey =
+    let s = spans printer facets low high (omega (arith, ints, ranged.grain_low)) (omega (arith, ints, ranged.margin_low)) (omega (arith, ints, ranged.step_low)) some kept in
+    let bands = band_count facets printer.step in
+    let S = spots_in printer facets in
+    subst (λ a. Spans bands S a en) (spot_is ws _ _ wx wy) (subst (λ b. Spans bands S (spot_below printer.grain printer.margin low) b) (spot_is en _ _ ex ey) s)

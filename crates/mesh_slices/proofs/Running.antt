@@ -9,7 +9,8 @@ use Rattle.seq_model.specs.declared.mesh.Facet.{Facet}
 use Rattle.seq_model.specs.Bands.{vertices}
 use Rattle.seq_model.specs.Bounds.{IsNear, IsNearFacet}
 use Rattle.integer_laws.specs.Extremes.{least, greatest}
-use Rattle.integer_laws.specs.Members.{In, In-from_contains, In-map_cases, All-in}
+use Rattle.integer_laws.specs.Members.{In}
+use Rattle.integer_laws.specs.Laws.Members.{In-from_contains, In-map_cases, All-in}
 use Rattle.mesh_slices.proofs.Members.{all_flat}
 
 -- the coordinates of the vertices

@@ -15,9 +15,8 @@ use Rattle.seq_model.specs.declared.printer.Printer.{Printer}
 use Rattle.seq_model.specs.declared.printer.Spot.{Spot}
 use Rattle.seq_model.specs.Bands.{band_count}
 use Rattle.seq_model.specs.Outlines.{Inner, Within}
-use Rattle.seq_model.specs.Points.{Point}
+use Rattle.seq_model.specs.Points.{Point, at_spot}
 use Rattle.seq_model.specs.Scenes.{Scene}
-use Rattle.convex_outline.specs.Corners.{at_spot}
 use Rattle.mesh_slices.specs.Objects.{AreZonesOf, spots_in}
 
 -- the same inner points, and each member of one list within the other

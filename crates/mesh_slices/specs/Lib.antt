@@ -9,14 +9,6 @@ pub mod Vertices
 pub mod Runs
 pub mod Folding
 -- lemmas: outlines are unique
-pub mod Unique
 -- lemmas: zones cover their bands
-pub mod Covering
-pub mod CoveringSpots
-pub mod CoveringEdges
-pub mod CoveringFacets
-pub mod CoveringMeshes
-pub mod CoveringHeights
 -- lemmas: scenes that agree, and the scene of a job with that of its files
-pub mod Agreeing
-pub mod AgreeingJobs
+pub mod Laws

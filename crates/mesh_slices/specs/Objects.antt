@@ -14,21 +14,20 @@ use Rattle.std.specs.Prelude.{ℕ, ℤ, ◌≡◌, ◌≢◌, ◌<◌, ◌≤◌
 use Rattle.seq_model.specs.declared.job.Object.{Object}
 use Rattle.seq_model.specs.declared.job.Zone.{Zone}
 use Rattle.seq_model.specs.declared.mesh.Facet.{Facet}
-use Rattle.seq_model.specs.declared.printer.Part.{Part}
 use Rattle.seq_model.specs.declared.printer.Printer.{Printer}
 use Rattle.seq_model.specs.declared.printer.Spot.{Spot}
-use Rattle.seq_model.specs.Bands.{corners, height_of, band_count}
+use Rattle.seq_model.specs.Bands.{corner_points, height_of, band_count}
 use Rattle.seq_model.specs.Outlines.{spots, Inner, Within}
-use Rattle.seq_model.specs.Points.{Point}
-use Rattle.seq_model.specs.Scenes.{Spans, scene_of_files, description_of}
+use Rattle.seq_model.specs.Points.{Point, at_spot}
+use Rattle.seq_model.specs.Scenes.{Spans}
 use Rattle.seq_model.specs.Soundness.{IsSoundObject}
-use Rattle.convex_outline.specs.Corners.{AreCorners, at_spot}
+use Rattle.convex_outline.specs.Corners.{AreCorners}
 use Rattle.mesh_slices.specs.declared.slice.Slice.{Slice}
 use Rattle.mesh_slices.specs.declared.slice.Slice.TheVariants.{Flat, TooTall, NoMemory}
 
 -- the spots of a mesh in band b
 abbrev pub spots_in : Printer → List Facet → ℕ → List Spot
-spots_in printer facets b = spots printer.grain printer.margin (corners facets printer.step b)
+spots_in printer facets b = spots printer.grain printer.margin (corner_points facets printer.step b)
 
 -- the corners of a convex outline, counterclockwise from the least: members of S, with every spot within them and the same
 -- inner points
@@ -65,8 +64,7 @@ pub record IsObjectOf (name : List ℕ) (facets : List Facet) (printer : Printer
   pub height : o.height ≡ height_of facets
   pub bands : o.bands ≡ band_count facets printer.step
   pub zones : AreZonesOf (spots_in printer facets) o.bands o.zones
-  -- a scene has parts, but Spans doesn't look at them: so this holds whatever parts are listed
-  pub spans : (listed : List Part) → Spans (scene_of_files (description_of printer listed) (facets ∷ [])) 0 o.low o.high
+  pub spans : Spans o.bands (spots_in printer facets) o.low o.high
   pub sound : IsSoundObject o
 
 -- the mesh has a facet, and at most 200 bands

@@ -8,11 +8,11 @@ ghost use Rattle.seq_model.specs.declared.plan.Plan.{Plan};
 ghost use Rattle.seq_model.specs.declared.printer.Part.{Part};
 ghost use Rattle.seq_model.specs.declared.printer.Printer.{Printer};
 ghost use Rattle.seq_model.specs.declared.printer.Spot.{Spot};
-ghost use Rattle.seq_model.specs.Bands.{corners};
+ghost use Rattle.seq_model.specs.Bands.{corner_points};
 ghost use Rattle.seq_model.specs.Jobs.{scene_of_job};
 ghost use Rattle.seq_model.specs.Outlines.{spots, Within};
 ghost use Rattle.seq_model.specs.Scenes.{Scene, Valid, Least, scene_of_files, description_of};
-ghost use Rattle.convex_outline.specs.Corners.{at_spot};
+ghost use Rattle.seq_model.specs.Points.{at_spot};
 ghost use Rattle.mesh_slices.specs.Agreement.{Agree, HasZonesOf, IsMadeFrom};
 ghost use Rattle.mesh_slices.specs.Cover.{SpacePoint, IsOn, HasBand, Covers, ZonesCover};
 ghost use Rattle.mesh_slices.specs.Objects.{IsOutlineOf, IsObjectOf};
@@ -48,7 +48,7 @@ pub fn a_job_has_the_least_extent_of_its_files()
 /// The spots of a band cover it: each point of a facet whose height is that of the band lies, in grains, within them.
 pub fn the_spots_of_a_band_cover_it()
     ensures { (facets : List Facet) (grain step margin : ℤ) (b : ℕ) → pos 1 ≤ℤ grain → pos 1 ≤ℤ step → pos 1 ≤ℤ margin
-        → Covers facets grain step b (spots grain margin (corners facets step b)) }
+        → Covers facets grain step b (spots grain margin (corner_points facets step b)) }
 {}
 
 /// What covers a band lies within each list that has its members within it, as an outline has: so that covers the band too.

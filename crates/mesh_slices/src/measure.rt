@@ -1,10 +1,10 @@
-ghost use Rattle.std.specs.Prelude.{◌≡◌, ◌<◌, ◌≤◌, pos, ◌-ℤ◌, ◌≤ℤ◌, [], ◌∷◌, List, length, All, unsigned_abs, max};
+ghost use Rattle.std.specs.Prelude.{◌≡◌, ◌<◌, ◌≤◌, pos, ◌-ℤ◌, ◌≤ℤ◌, length, All, unsigned_abs, max};
 ghost use Rattle.integer_laws.specs.Quotients.{ceil};
 ghost use Rattle.seq_model.specs.Bands.{band_count, height_of, least_z};
 ghost use Rattle.seq_model.specs.Bounds.{IsNear, IsNearFacet};
 ghost use Rattle.seq_model.specs.Outlines.{below, above};
-ghost use Rattle.seq_model.specs.Scenes.{Spans, scene_of_files, description_of};
-ghost use Rattle.seq_model.specs.declared.printer.Part.{Part};
+ghost use Rattle.seq_model.specs.Scenes.{Spans};
+ghost use Rattle.mesh_slices.specs.Objects.{spots_in};
 
 use crate::extremes::extremes_of;
 use crate::grains::{ceil_of, spot_above, spot_below};
@@ -57,7 +57,7 @@ fn bands_of(height: i64, step: i64) -> u64
 pub fn measure_of(printer: &Printer, facets: &[Facet]) -> Measure
     requires near { All IsNearFacet facets.now }
     requires some { 0 < length facets.now }
-    ensures spans { (listed : List Part) → Spans (scene_of_files (description_of printer.now listed) (facets.now ∷ [])) 0 result.low result.high }
+    ensures spans { Spans (band_count facets.now printer.now.step) (spots_in printer.now facets.now) result.low result.high }
     ensures bottom { result.bottom ≡ least_z facets.now }
     ensures bottom_near { unsigned_abs result.bottom ≤ 10_000_000 }
     ensures height { result.height ≡ height_of facets.now }

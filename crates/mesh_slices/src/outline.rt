@@ -3,7 +3,7 @@ ghost use Rattle.std.specs.List.{flat_map};
 ghost use Rattle.seq_model.specs.Bands.{facet_corners};
 ghost use Rattle.seq_model.specs.Bounds.{IsNearFacet};
 ghost use Rattle.seq_model.specs.Outlines.{four_spots, spots};
-ghost use Rattle.convex_outline.specs.Corners.{IsNear};
+ghost use Rattle.convex_outline.specs.Corners.{IsNarrow};
 ghost use Rattle.mesh_slices.specs.CornerPoints.{as_point};
 ghost use Rattle.mesh_slices.specs.Folding.{StandsFor};
 ghost use Rattle.mesh_slices.specs.Objects.{IsOutlineOf};
@@ -71,9 +71,9 @@ fn add_facet(
 
 // Keeps of some spots only the corners of their hull.
 fn fold(alloc: Global, found: &mut Vec<Spot>) -> Result<(), NoMemory>
-    requires { All IsNear found.old.items }
+    requires { All IsNarrow found.old.items }
     ensures stand { OnOk result (StandsFor found.old.items found.new.items) }
-    ensures near { OnOk result (All IsNear found.new.items) }
+    ensures near { OnOk result (All IsNarrow found.new.items) }
 {
     let corners = hull(alloc, found.as_slice())?;
     found.clear();
@@ -84,9 +84,9 @@ fn fold(alloc: Global, found: &mut Vec<Spot>) -> Result<(), NoMemory>
 // Folds the spots if they are 2,050 at least, and more than twice as many as were kept by the last fold. Answers how many are
 // kept by it, and without a fold `kept` as it was, for the next time.
 fn fold_if_full(alloc: Global, found: &mut Vec<Spot>, kept: usize) -> Result<usize, NoMemory>
-    requires { All IsNear found.old.items }
+    requires { All IsNarrow found.old.items }
     ensures stand { OnOk result (StandsFor found.old.items found.new.items) }
-    ensures near { OnOk result (All IsNear found.new.items) }
+    ensures near { OnOk result (All IsNarrow found.new.items) }
 {
     if found.len() / 2 <= kept.max(HALF) {
         return Ok(kept);
@@ -104,7 +104,7 @@ fn standing_spots(
 ) -> Result<Vec<Spot>, NoMemory>
     requires { All IsNearFacet facets.now }
     ensures stand { IfOk result (λ found. StandsFor (spots printer.now.grain printer.now.margin (flat_map (facet_corners slab.now.low slab.now.high) facets.now)) found.items) }
-    ensures near { IfOk result (λ found. All IsNear found.items) }
+    ensures near { IfOk result (λ found. All IsNarrow found.items) }
 {
     let mut found = Vec::new(alloc);
     let mut kept = 0;

@@ -1,7 +1,8 @@
 //! Rows of a linear system.
 
 ghost use Rattle.std.specs.Prelude.{ℤ, List};
-ghost use Rattle.seq_model.specs.Systems.{Row, MeetsRows, Contradiction};
+ghost use Rattle.seq_model.specs.declared.row.Row.{Row};
+ghost use Rattle.seq_model.specs.Systems.{MeetsRows, Contradiction};
 ghost use Rattle.seq_model.specs.declared.tree.Mult.{Mult};
 
 /// No point meets rows that have a contradiction.

@@ -1,6 +1,7 @@
 //! Trees, by their roots.
 
 ghost use Rattle.std.specs.Prelude.{◌≡◌, ℕ, List, [], ◌∷◌, Contains, All, ◌↔◌};
+ghost use Rattle.seq_model.specs.Splits.{OpenTree, StandsAt};
 ghost use Rattle.seq_model.specs.Systems.{system, Contradiction};
 ghost use Rattle.seq_model.specs.Trees.{IsCycle, IsPath, AreChildren, IsSoundNode, IsClosed, IsTree, Refutes};
 ghost use Rattle.seq_model.specs.declared.job.Job.{Job};
@@ -10,6 +11,7 @@ ghost use Rattle.seq_model.specs.declared.tree.Contact.{Contact};
 ghost use Rattle.seq_model.specs.declared.tree.Mult.{Mult};
 ghost use Rattle.seq_model.specs.declared.tree.Node.{Node};
 ghost use Rattle.seq_model.specs.declared.tree.Node.TheVariants as Nodes;
+ghost use Rattle.seq_model.specs.declared.tree.Tree.{Tree};
 ghost use Rattle.model_laws.specs.Roots.{OrderRefutes, SideRefutes};
 
 /// When a tree refutes a path, by the kind of its root. A bound's multipliers contradict the path's system, and a cycle's objects
@@ -37,4 +39,10 @@ pub fn nodes_stand_at_paths()
         → IsPath job path → IsSoundNode job e path node → AreChildren job path node paths → All (IsPath job) paths }
     ensures all { (job : Job) (e : ℕ) (nodes : List Node)
         → Refutes job e [] nodes → IsTree job (λ path node. (IsSoundNode job e path node × IsClosed node) × IsPath job path) [] nodes }
+{}
+
+/// A node of a tree stands at one path, and in an open tree this is a path of the job.
+pub fn a_node_stands_at_one_path()
+    ensures one { (job : Job) (nodes : List Node) (k : ℕ) (path other : List Choice) → StandsAt job nodes k path → StandsAt job nodes k other → path ≡ other }
+    ensures of_the_job { (job : Job) (e : ℕ) (tree : Tree) (k : ℕ) (path : List Choice) → OpenTree job e tree → StandsAt job tree.nodes k path → IsPath job path }
 {}

@@ -1,7 +1,7 @@
 -- Each object's next one: at the start none has one, and then they are set one by one.
 use Rattle.std.proofs.Common.{◌≡◌, ◌≢◌, ℕ, zero, suc, ◌<◌, List, length, get_or, set, replicate, Option, Some, None, ◌⊎◌, inl, inr, ⊎_elim, refl, sym, ap, ◌∙◌, get_or-set_same, get_or-set_other}
 use Rattle.std.proofs.lemmas.Bool.{cases_eq}
-use Rattle.order_graph.specs.Walks.{IsNext}
+use Rattle.order_graph.specs.Searches.{IsNext}
 
 pub empty : (n k : ℕ) → get_or {A = Option ℕ} (replicate n None) k None ≡ None
 empty zero k = refl

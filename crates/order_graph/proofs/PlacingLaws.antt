@@ -6,7 +6,7 @@ use Rattle.std.proofs.lemmas.List.Elements.{Contains-get_or, All-contains_itself
 use Rattle.std.proofs.lemmas.Nat.Bits.{bit_at_above}
 use Rattle.order_graph.specs.Orders.{IsAmong, IsOnce, IsOrdered, EachNext, IsSimpleCycle, IsOrder, StandsBefore}
 use Rattle.order_graph.specs.Sets.{Has, IsBefore, AreNoted}
-use Rattle.order_graph.specs.Walks.{IsNext, IsNextBelow, IsWalk, ComesRound, IsFree, NoneFree, LeadsBack}
+use Rattle.order_graph.specs.Searches.{IsNext, IsNextBelow, IsWalk, ComesRound, IsFree, NoneFree, LeadsBack}
 use Rattle.order_graph.proofs.Lists.{room, once_push, once_reverse}
 use Rattle.order_graph.proofs.NextLaws.{no_next, next_cases}
 use Rattle.order_graph.proofs.WayLaws.{EachNext-weaker, carried, round_back}

@@ -3,7 +3,7 @@ use Rattle.std.proofs.Common.{◌≡◌, ℕ, zero, suc, ◌+◌, ◌<◌, List,
 use Rattle.std.proofs.lemmas.List.{drop_more, drop-append-le, reverse-append}
 use Rattle.std.proofs.lemmas.Grind.{reverse_onto}
 use Rattle.order_graph.specs.Orders.{IsOnce, EachNext}
-use Rattle.order_graph.specs.Walks.{IsNext, ComesRound}
+use Rattle.order_graph.specs.Searches.{IsNext, ComesRound}
 use Rattle.order_graph.proofs.Lists.{once_drop}
 
 pub EachNext-push : (R : ℕ → ℕ → Type 0) (xs : List ℕ) (a b : ℕ) → EachNext R (xs ++ a ∷ []) → R a b → EachNext R ((xs ++ a ∷ []) ++ b ∷ [])

@@ -1,3 +1,3 @@
 pub mod Orders
 pub mod Sets
-pub mod Walks
+pub mod Searches

@@ -1,7 +1,7 @@
 ghost use Rattle.std.specs.Prelude.{◌≡◌, ◌≢◌, ◌↔◌, ℕ, ◌<◌, List, [], ◌∷◌, IsTrue, MatchOption};
 ghost use Rattle.order_graph.specs.Orders.{Leads, ClosesCycle};
 ghost use Rattle.order_graph.specs.Sets.{AreNoted};
-ghost use Rattle.order_graph.specs.Walks.{IsKnown, AllKnown, LeadsOn};
+ghost use Rattle.order_graph.specs.Searches.{IsKnown, AllKnown, LeadsOn};
 
 use crate::answers::Cycle;
 use crate::sets::{Objects, any_of, apart, with, without};

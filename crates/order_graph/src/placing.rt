@@ -1,7 +1,7 @@
 ghost use Rattle.std.specs.Prelude.{◌≡◌, ◌≢◌, ℕ, ◌<◌, ◌≤◌, List, ◌++◌, MatchOption, MatchResult};
 ghost use Rattle.order_graph.specs.Orders.{AreAmong, IsAmong, IsOrder, IsSimpleCycle};
 ghost use Rattle.order_graph.specs.Sets.{Has, IsBefore, AreNoted};
-ghost use Rattle.order_graph.specs.Walks.{IsFree, NoneFree, LeadsBack};
+ghost use Rattle.order_graph.specs.Searches.{IsFree, NoneFree, LeadsBack};
 
 use crate::answers::{Cycle, Order};
 use crate::row::Row;

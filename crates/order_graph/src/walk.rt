@@ -1,5 +1,5 @@
 ghost use Rattle.std.specs.Prelude.{◌<◌};
-ghost use Rattle.order_graph.specs.Walks.{IsNextBelow, Follows};
+ghost use Rattle.order_graph.specs.Searches.{IsNextBelow, Follows};
 
 use crate::answers::Cycle;
 use crate::row::Row;

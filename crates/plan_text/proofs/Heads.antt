@@ -8,7 +8,7 @@ use Rattle.plan_text.specs.declared.file.State.{State}
 use Rattle.plan_text.specs.declared.file.State.TheVariants.{Found, Least, OpenBudget, OpenWide, NoPlan, UndecidedBudget, UndecidedWide}
 use Rattle.plan_text.specs.PlanText.{state_line, number_line, head_text}
 use Rattle.plan_text.specs.Lines.{or_later, first_named, state_line_at, number_line_at}
-use Rattle.plan_text.specs.Laws.{number_line_takes, number_line_again}
+use Rattle.plan_text.specs.Laws.Reading.{number_line_takes, number_line_again}
 use Rattle.plan_text.specs.Reading.{refusal, head_at}
 use Rattle.plan_text.proofs.Chains.{step_ok, was_there, same_ok}
 

@@ -11,7 +11,7 @@
 use Rattle.std.specs.Prelude.{ℕ, pos, ◌+◌, ◌-◌, zero, suc, unsigned_abs, ◌==◌, List, [], ◌∷◌, ◌++◌, length, Bool, ◌||◌, if◌then◌else◌, Result, Ok, Err, codes}
 use Rattle.std.specs.Option.{ok_or}
 use Rattle.std.specs.List.{list_any}
-use Rattle.integer_laws.specs.Divisors.{gcd_is}
+use Rattle.integer_laws.specs.Laws.Divisors.{gcd_is}
 use Rattle.seq_num.specs.Reading.{literal_at}
 use Rattle.seq_model.specs.declared.plan.Place.{Place}
 use Rattle.seq_model.specs.declared.what.What.{What}

@@ -4,8 +4,9 @@ use Rattle.std.proofs.lemmas.Int.{ints}
 use Rattle.std.proofs.lemmas.Bool.{and_parts}
 use Rattle.std.proofs.lemmas.Bool.Decides.{nat_tests}
 use Rattle.std.specs.Option.{ForSome}
-use Rattle.integer_laws.specs.Order.{mul_le}
-use Rattle.integer_laws.specs.Quotients.{floor, IsFloor, IsCeil, floor_is, floor_le, floor_le_ceil, least_quotient}
+use Rattle.integer_laws.specs.Laws.Order.{mul_le}
+use Rattle.integer_laws.specs.Quotients.{floor, IsFloor, IsCeil}
+use Rattle.integer_laws.specs.Laws.Quotients.{floor_is, floor_le, floor_le_ceil, least_quotient}
 use Rattle.seq_model.specs.Contacts.{ZonesMeet, reaches_to}
 use Rattle.seq_model.specs.declared.job.Zone.{Zone}
 use Rattle.seq_model.specs.declared.printer.Part.{Part}

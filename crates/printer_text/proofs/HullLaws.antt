@@ -3,15 +3,17 @@ use Rattle.std.proofs.Common.{◌≡◌, ℕ, ◌+◌, ◌<◌, ◌≤◌, ℤ, 
 use Rattle.std.proofs.lemmas.Int.{ints}
 use Rattle.std.proofs.lemmas.List.{length-append, drop_all}
 use Rattle.std.proofs.lemmas.List.Elements.{All-nil, All-cons, All-append}
-use Rattle.integer_laws.specs.Members.{In, In-from_contains, Contains-from_in, All-in, All-from_in}
+use Rattle.integer_laws.specs.Members.{In}
+use Rattle.integer_laws.specs.Laws.Members.{In-from_contains, Contains-from_in, All-in, All-from_in}
 use Rattle.integer_laws.specs.Weights.{total}
-use Rattle.model_laws.specs.Turning.{LeftAbout, least_by_list, left_by_list, corners_by_list}
-use Rattle.convex_outline.specs.Corners.{at_spot, IsNear}
+use Rattle.model_laws.specs.Turning.{LeftAbout}
+use Rattle.model_laws.specs.Laws.Turning.{least_by_list, left_by_list, corners_by_list}
+use Rattle.seq_model.specs.Points.{at_spot, Point}
+use Rattle.convex_outline.specs.Corners.{IsNarrow}
 use Rattle.seq_model.specs.Bounds.{IsNearSpot}
 use Rattle.seq_model.specs.Corners.{turn, IsBefore, AreCorners}
 use Rattle.seq_model.specs.Outlines.{Inner, Within}
 use Rattle.seq_model.specs.Parts.{tip, IsPartName, IsSoundPart}
-use Rattle.seq_model.specs.Points.{Point}
 use Rattle.seq_model.specs.declared.printer.Part.{Part}
 use Rattle.seq_model.specs.declared.printer.Spot.{Spot}
 use Rattle.toml.specs.Data.{Items, Members, as_table}
@@ -24,10 +26,10 @@ use Rattle.printer_text.specs.Printers.{part_in, part_from, parts_behind, IsKept
 use Rattle.printer_text.specs.Values.{count}
 use Rattle.printer_text.proofs.ItemLaws.{items_more}
 
-pub near_enough : (S : List Spot) → All (IsNearSpot 100_000) S → All IsNear S
-near_enough S all = All-from_in IsNear S (λ s i. one s (All-in (IsNearSpot 100_000) S s all i))
+pub near_enough : (S : List Spot) → All (IsNearSpot 100_000) S → All IsNarrow S
+near_enough S all = All-from_in IsNarrow S (λ s i. one s (All-in (IsNearSpot 100_000) S s all i))
   where
-    one : (s : Spot) → IsNearSpot 100_000 s → IsNear s
+    one : (s : Spot) → IsNearSpot 100_000 s → IsNarrow s
     one s h = (let x = h.x in let y = h.y in (omega arith, omega arith))
 
 -- ---- members that differ are no more than those they are among

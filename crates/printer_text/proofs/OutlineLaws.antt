@@ -7,7 +7,7 @@ use Rattle.std.proofs.lemmas.List.{length-append}
 use Rattle.std.proofs.lemmas.List.Elements.{All-append, All-cons}
 use Rattle.std.specs.Ordering.{int_eq}
 use Rattle.std.specs.Prelude.{int_div, int_rem}
-use Rattle.integer_laws.specs.Ring as Ring
+use Rattle.integer_laws.specs.Laws.Ring as Ring
 use Rattle.printer_envelopes.specs.Bars.{bar, rectangle}
 use Rattle.seq_model.specs.Bounds.{IsNearSpot}
 use Rattle.seq_model.specs.declared.printer.Spot.{Spot}

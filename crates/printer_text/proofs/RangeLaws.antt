@@ -1,7 +1,7 @@
 -- Ranges in grains.
 use Rattle.std.proofs.Common.{◌≡◌, ℤ, pos, ◌*ℤ◌, ◌≤ℤ◌, ◌<ℤ◌, unsigned_abs, arith}
 use Rattle.std.proofs.lemmas.Int.{ints}
-use Rattle.integer_laws.specs.Order.{cancel_le}
+use Rattle.integer_laws.specs.Laws.Order.{cancel_le}
 use Rattle.seq_model.specs.Bounds.{IsPrinter}
 use Rattle.printer_text.specs.Outlines.{IsGrain}
 

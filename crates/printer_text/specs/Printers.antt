@@ -14,12 +14,12 @@
 --   PrinterOf bytes p       the bytes describe the printer p, which keeps the hulls of its parts
 --   IsRefusedPrinter bytes e    the bytes are refused for this cause
 use Rattle.std.specs.Prelude.{◌≡◌, ◌↔◌, ◌⊎◌, ℕ, ◌+◌, Bool, List, [], ◌∷◌, ◌++◌, All, Contains, Option, Some, None, Result, Ok, Err, IsUtf8, option_map}
-use Rattle.convex_outline.specs.Corners.{AreCorners, at_spot}
+use Rattle.convex_outline.specs.Corners.{AreCorners}
+use Rattle.seq_model.specs.Points.{at_spot, Point}
 use Rattle.printer_envelopes.specs.Bands.{first_band, last_band}
 use Rattle.printer_envelopes.specs.Bars.{bar}
 use Rattle.seq_model.specs.Outlines.{Inner, Within}
 use Rattle.seq_model.specs.Parts.{tip, AreParts}
-use Rattle.seq_model.specs.Points.{Point}
 use Rattle.seq_model.specs.Scenes.{Description, description_of}
 use Rattle.seq_model.specs.declared.printer.Part.{Part}
 use Rattle.seq_model.specs.declared.printer.Printer.{Printer}

@@ -9,7 +9,7 @@
 //! and when a plan is valid); what the types keep in `Bounds`, `Corners`, `Parts` and `Soundness`; `Jobs`, `Contacts`, `Sides`,
 //! `Systems`, `Trees`, `Splits` and `Budgets` for the search and its certificates; and `Dictionaries` and `Walks` for what a
 //! solver does. The only call here is `region`.
-//! Laws over the definitions stand in `model_laws` and `row_walks`, the worked examples in `model_examples`.
+//! Laws over the definitions stand in `model_laws` and `row_laws`, the worked examples in `examples_model`.
 #![tactic(auto)]
 
 mod extent;

@@ -3,7 +3,8 @@ use Rattle.std.proofs.Common.{◌≡◌, ℕ, zero, suc, ℤ, pos, negsuc, ◌�
 use Rattle.std.proofs.lemmas.Int.{ints}
 use Rattle.std.proofs.lemmas.Nat.Gcd.{IsGcd-from_zero, same_from_IsGcd}
 use Rattle.std.specs.Int.{IsGcd}
-use Rattle.integer_laws.specs.Divisors.{IsGcdOf, gcd_positive}
+use Rattle.integer_laws.specs.Divisors.{IsGcdOf}
+use Rattle.integer_laws.specs.Laws.Divisors.{gcd_positive}
 
 pub gcd_of_signed : (a b : ℤ) (m n g : ℕ) → m ≡ unsigned_abs a → n ≡ unsigned_abs b → IsGcd m n g → IsGcdOf a b (pos g)
 gcd_of_signed a b m n g x y h = record { nonneg = omega (arith, ints); is = subst₂ (λ s t. IsGcd s t g) x y h }

@@ -1,8 +1,9 @@
 -- The quotients lie between their bounds.
 use Rattle.std.proofs.Common.{ℕ, ℤ, pos, negsuc, ◌≡◌, ◌≤ℤ◌, ◌<ℤ◌, ◌*ℤ◌, neg_ℤ, unsigned_abs, arith, sym, ap₂, ◌∙◌, subst}
 use Rattle.std.proofs.lemmas.Int.{ints}
-use Rattle.integer_laws.specs.Quotients.{floor, ceil, IsFloor, IsCeil, floor_is, ceil_is}
-use Rattle.integer_laws.specs.Ring.{neg-neg}
+use Rattle.integer_laws.specs.Quotients.{floor, ceil, IsFloor, IsCeil}
+use Rattle.integer_laws.specs.Laws.Quotients.{floor_is, ceil_is}
+use Rattle.integer_laws.specs.Laws.Ring.{neg-neg}
 use Rattle.seq_num.specs.Nearest.{IsNearest, half_up}
 use Rattle.seq_num.specs.Laws.Nearest.{half_up_is, nearest_half, IsNearest-neg}
 use borrow.Author.Differences.{neg_is, product_is}

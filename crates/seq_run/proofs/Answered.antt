@@ -7,7 +7,7 @@ use Rattle.seq_model.specs.declared.job.Job.{Job}
 use Rattle.seq_model.specs.declared.job.Object.{Object}
 use Rattle.seq_model.specs.declared.mesh.Facet.{Facet}
 use Rattle.seq_model.specs.declared.printer.Printer.{Printer}
-use Rattle.seq_run.specs.Answers.{Answers, ArrangesJob, IsNoteFor, Prints, PrintsFor}
+use Rattle.seq_run.specs.Printed.{Answers, ArrangesJob, IsNoteFor, Prints, PrintsFor}
 use Rattle.seq_run.specs.Files.{IsMeshFile, IsPrinterFor, IsPrinterOf, PassesStrict}
 use Rattle.seq_run.specs.Words.{is_strict}
 use Rattle.seq_run.specs.declared.planning.Answer.{Answer}

@@ -12,9 +12,9 @@ use Rattle.seq_model.specs.Bands.{band_count}
 use Rattle.seq_model.specs.Scenes.{Description, Valid, scene_of_files}
 use Rattle.seq_model.specs.declared.mesh.Facet.{Facet}
 use Rattle.seq_model.specs.declared.plan.Plan.{Plan}
-use Rattle.stl_text.specs.Laws.{one_mesh, refused_no_mesh}
+use Rattle.stl_text.specs.Laws.Meshes.{one_mesh, refused_no_mesh}
 use Rattle.stl_text.specs.Meshes.{MeshOf}
-use Rattle.seq_run.specs.Answers.{Answers, Prints}
+use Rattle.seq_run.specs.Printed.{Answers, Prints}
 use Rattle.seq_run.specs.Causes.{Refuses, IsUnfitFile}
 use Rattle.seq_run.specs.Files.{AreUsable, IsMeshFile, IsPrinterFile, limit_of}
 use Rattle.seq_run.specs.Runs.{HasNoPlan, IsUsable}

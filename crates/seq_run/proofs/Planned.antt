@@ -4,7 +4,9 @@ use Rattle.std.proofs.lemmas.Int.{ints}
 use Rattle.std.proofs.lemmas.List.Elements.{All-nil, All-cons}
 use Rattle.std.proofs.Math.Nat.{eq-one_of_dvd-one}
 use Rattle.lone_object.specs.Lone.{FitsPlate, Overhangs, IsFirstNegative, span_tree, zero_place, lone_plan}
+use Rattle.mesh_slices.specs.Objects.{spots_in}
 use Rattle.plan_text.specs.PlanText.{plan_text, IsPlace, IsPlanFile}
+use Rattle.seq_model.specs.Bands.{band_count}
 use Rattle.seq_model.specs.Scenes.{Description, Scene, Spans, Valid, scene_of_files, description_of}
 use Rattle.seq_model.specs.Systems.{system}
 use Rattle.seq_model.specs.Trees.{Refutes}
@@ -16,7 +18,7 @@ use Rattle.seq_model.specs.declared.plan.Plan.{Plan}
 use Rattle.seq_model.specs.declared.printer.Part.{Part}
 use Rattle.seq_model.specs.declared.printer.Printer.{Printer}
 use Rattle.seq_model.specs.declared.printer.Spot.{Spot}
-use Rattle.seq_run.specs.Answers.{PrintsPlan, ArrangesJob}
+use Rattle.seq_run.specs.Printed.{PrintsPlan, ArrangesJob}
 use Rattle.seq_run.specs.Texts.{found, none_text}
 
 -- no number but 1 divides the scale 1, so the file of a plan of one place is one that the grammar spells
@@ -42,10 +44,10 @@ is_place low place is x y =
     record { object = omega (arith, first); x = omega (arith, x); y = omega (arith, y) }
 
 abbrev pub LoneLaw : Type 0
-LoneLaw = (scene : Scene) (low high : Spot) → scene.objects ≡ 1 → 1 ≤ scene.grid → pos 1 ≤ℤ scene.width → pos 1 ≤ℤ scene.depth → Spans scene 0 low high → FitsPlate scene.width scene.depth low high → Valid scene scene.grid (lone_plan (zero_place low))
+LoneLaw = (scene : Scene) (low high : Spot) → scene.objects ≡ 1 → 1 ≤ scene.grid → pos 1 ≤ℤ scene.width → pos 1 ≤ℤ scene.depth → Spans (scene.bands 0) (scene.spots 0) low high → FitsPlate scene.width scene.depth low high → Valid scene scene.grid (lone_plan (zero_place low))
 
 abbrev pub NoPlanLaw : Type 0
-NoPlanLaw = (scene : Scene) (low high : Spot) (row : ℕ) → scene.objects ≡ 1 → 1 ≤ scene.grid → pos 1 ≤ℤ scene.width → pos 1 ≤ℤ scene.depth → Spans scene 0 low high → Overhangs scene.width scene.depth low high row → (e : ℕ) (plan : Plan) → Valid scene e plan → ⊥
+NoPlanLaw = (scene : Scene) (low high : Spot) (row : ℕ) → scene.objects ≡ 1 → 1 ≤ scene.grid → pos 1 ≤ℤ scene.width → pos 1 ≤ℤ scene.depth → Spans (scene.bands 0) (scene.spots 0) low high → Overhangs scene.width scene.depth low high row → (e : ℕ) (plan : Plan) → Valid scene e plan → ⊥
 
 abbrev pub FirstLaw : Type 0
 FirstLaw = (job : Job) (object : Object) (row : ℕ) → job.objects ≡ object ∷ [] → Overhangs job.printer.width job.printer.depth object.low object.high row → IsFirstNegative (system job job.printer.grid []) row
@@ -57,7 +59,7 @@ TreeLaw = (job : Job) (object : Object) (row : ℕ) → job.objects ≡ object �
 abbrev stated : Printer → List Part → Description
 stated printer listed = description_of printer listed
 
-prints_plan : LoneLaw → (printer : Printer) (listed : List Part) (facets : List Facet) (low high : Spot) (place : Place) (text : List ℕ) → Spans (scene_of_files (stated printer listed) (facets ∷ [])) 0 low high → FitsPlate printer.width printer.depth low high
+prints_plan : LoneLaw → (printer : Printer) (listed : List Part) (facets : List Facet) (low high : Spot) (place : Place) (text : List ℕ) → Spans (band_count facets printer.step) (spots_in printer facets) low high → FitsPlate printer.width printer.depth low high
     → place ≡ zero_place low → text ≡ plan_text (found printer.grid (lone_plan place)) → IsPlace place → PrintsPlan (stated printer listed) facets text
 prints_plan law printer listed facets low high place text spans fits is_place is spelled =
     let ranged = printer.ranged in
@@ -69,6 +71,9 @@ prints_plan law printer listed facets low high place text spans fits is_place is
       zero_point = record { low = low; high = high; spans = spans; is = refl };
     }
 
+spans_by_count : (printer : Printer) (facets : List Facet) (o : Object) → o.bands ≡ band_count facets printer.step → Spans o.bands (spots_in printer facets) o.low o.high → Spans (band_count facets printer.step) (spots_in printer facets) o.low o.high
+spans_by_count printer facets o e spans = subst (λ n. Spans n (spots_in printer facets) o.low o.high) e spans
+
 only_same : (a b : Object) → a ∷ [] ≡ b ∷ [] → a ≡ b
 only_same a b e = cc
 
@@ -77,7 +82,7 @@ pub found_for : LoneLaw → (job : Job) (object : Object) (place : Place) (text 
 found_for law job object place text one fits is_place is spelled = record {
   each = λ strict d name facets j.
       (let same : object ≡ j.object = only_same object j.object (sym one ∙ j.one) in
-      let spans = subst (λ (o : Object). Spans (scene_of_files (stated job.printer d.parts) (facets ∷ [])) 0 o.low o.high) (sym same) (j.is.spans d.parts) in
+      let spans = subst (λ (o : Object). Spans (band_count facets job.printer.step) (spots_in job.printer facets) o.low o.high) (sym same) (spans_by_count job.printer facets j.object j.is.bands j.is.spans) in
       subst (λ e. PrintsPlan e facets text) j.printer.numbers (prints_plan law job.printer d.parts facets object.low object.high place text spans fits is_place is spelled));
 }
 
@@ -90,7 +95,7 @@ none_for no_plan first tree job object row text one over is = record {
       let numbers = j.printer.numbers in
       record {
         none = subst (λ e. (x : ℕ) (plan : Plan) → Valid (scene_of_files e (facets ∷ [])) x plan → ⊥) numbers
-            (no_plan (scene_of_files (stated job.printer d.parts) (facets ∷ [])) j.object.low j.object.high row refl ranged.grid_low ranged.width_low ranged.depth_low (j.is.spans d.parts) there);
+            (no_plan (scene_of_files (stated job.printer d.parts) (facets ∷ [])) j.object.low j.object.high row refl ranged.grid_low ranged.width_low ranged.depth_low (spans_by_count job.printer facets j.object j.is.bands j.is.spans) there);
         job = job;
         is_job = j;
         row = row;

@@ -3,5 +3,5 @@ pub mod Files
 pub mod Causes
 pub mod Texts
 pub mod Messages
-pub mod Answers
+pub mod Printed
 pub mod Runs

@@ -19,7 +19,7 @@ use Rattle.seq_model.specs.Scenes.{Description, Valid, scene_of_files}
 use Rattle.seq_model.specs.declared.mesh.Facet.{Facet}
 use Rattle.seq_model.specs.declared.plan.Plan.{Plan}
 use Rattle.seq_words.specs.declared.command.Words.TheVariants.{NoMemory}
-use Rattle.seq_run.specs.Answers.{Answers}
+use Rattle.seq_run.specs.Printed.{Answers}
 use Rattle.seq_run.specs.Causes.{Refuses, Reaches, Explains}
 use Rattle.seq_run.specs.Files.{AreUsable, name_in}
 use Rattle.seq_run.specs.Messages.{words_line, read_line, input_line, line_of}

@@ -2,7 +2,7 @@
 
 ghost use Rattle.std.specs.Prelude.{ℕ, List, Some};
 ghost use Rattle.seq_io.specs.declared.mem_file.MemFile.{MemFile};
-ghost use Rattle.seq_run.specs.Answers.{Answers};
+ghost use Rattle.seq_run.specs.Printed.{Answers};
 ghost use Rattle.seq_run.specs.Causes.{Refuses};
 ghost use Rattle.seq_run.specs.Runs.{HasNoPlan, IsUsable};
 ghost use Rattle.seq_run.specs.declared.stop.Cause.{Cause};

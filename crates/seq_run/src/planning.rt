@@ -3,7 +3,7 @@ ghost use Rattle.mesh_checks.specs.Edges.{open_edges};
 ghost use Rattle.mesh_checks.specs.Volumes.{six_volume};
 ghost use Rattle.mesh_slices.specs.Objects.{CanBeSliced, IsObjectOf};
 ghost use Rattle.seq_model.specs.Soundness.{IsSoundObject};
-ghost use Rattle.seq_run.specs.Answers.{ArrangesJob, IsNoteFor, PrintsFor};
+ghost use Rattle.seq_run.specs.Printed.{ArrangesJob, IsNoteFor, PrintsFor};
 ghost use Rattle.seq_run.specs.Causes.{IsUnfit, IsUnlooked, IsUnsliced};
 ghost use Rattle.seq_run.specs.Files.{PassesStrict};
 ghost use Rattle.seq_run.specs.declared.words.Task.{Task};

@@ -2,7 +2,7 @@ ghost use Rattle.std.specs.Prelude.{◌≡◌, ◌⊎◌, ◌≤◌, List, Some,
 ghost use Rattle.seq_io.specs.Counts.{Rose};
 ghost use Rattle.seq_io.specs.Taken.{Grew, TookPart};
 ghost use Rattle.seq_io.specs.declared.mem_file.MemFile.{MemFile};
-ghost use Rattle.seq_run.specs.Answers.{Answers};
+ghost use Rattle.seq_run.specs.Printed.{Answers};
 ghost use Rattle.seq_run.specs.Causes.{Explains};
 ghost use Rattle.seq_run.specs.Files.{name_in};
 ghost use Rattle.seq_run.specs.Messages.{memory_line, words_line};

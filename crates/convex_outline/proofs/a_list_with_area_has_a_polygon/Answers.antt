@@ -1,4 +1,4 @@
-use Rattle.convex_outline.specs.Area.{three_of_area}
+use Rattle.convex_outline.specs.Laws.Area.{three_of_area}
 use Rattle.convex_outline.proofs.a_list_with_area_has_a_polygon.Goals as goal
 
 pub returns : goal.returns

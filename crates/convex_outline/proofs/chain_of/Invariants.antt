@@ -1,11 +1,11 @@
 use Rattle.std.proofs.Common.{◌≡◌, All, drop, []}
 use Rattle.std.specs.Prelude.{reverse}
-use Rattle.convex_outline.specs.Corners.{IsNear}
+use Rattle.convex_outline.specs.Corners.{IsNarrow}
 use Rattle.convex_outline.specs.Chains.{grown}
 use Rattle.convex_outline.proofs.chain_of.Given as goal
 
 abbrev pub invariant-loop-spot : goal.invariant-loop-spot
 invariant-loop-spot l = record {
   grown : grown (reverse l.chain.items) (drop l.spot-index l.spots) ≡ grown [] l.spots;
-  near : All IsNear l.chain.items;
+  near : All IsNarrow l.chain.items;
 }

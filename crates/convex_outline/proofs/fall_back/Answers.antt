@@ -2,7 +2,7 @@ use Rattle.std.proofs.Common.{◌-◌, arith, ◌∙◌, pos, ◌≤ℤ◌, ◌<
 use Rattle.std.specs.Prelude.{vec_len}
 use Rattle.std.proofs.lemmas.List.Elements.{All-pop}
 use Rattle.std.proofs.lemmas.Int.{ints}
-use Rattle.convex_outline.specs.Corners.{turn, IsNear}
+use Rattle.convex_outline.specs.Corners.{turn, IsNarrow}
 use Rattle.convex_outline.proofs.Reading.{falls, stays}
 use Rattle.convex_outline.proofs.fall_back.Goals as goal
 
@@ -17,7 +17,7 @@ loop-chain-preserved c =
     let t : turn x y p ≤ℤ pos 0 = omega (arith, ints) in
     record {
       fallen = falls p x y xs c.pop.new.self.items (c.len-in-loop-chain.result - 2) (c.len-in-loop-chain-2.result - 1) (vec_len c.loop-chain.chain - 1) (omega arith) (omega arith) (omega arith) c.index.ensures c.index-in-loop-chain.ensures t c.pop.ensures.rest ∙ c.loop-chain.invariant.fallen;
-      near = (All-pop IsNear xs c.pop.new.self.items c.pop.result c.pop.ensures.items c.loop-chain.invariant.near).0;
+      near = (All-pop IsNarrow xs c.pop.new.self.items c.pop.result c.pop.ensures.items c.loop-chain.invariant.near).0;
     }
 
 pub returns-else-turn_of-le0-clause-fallen : goal.returns-else-turn_of-le0-clause-fallen

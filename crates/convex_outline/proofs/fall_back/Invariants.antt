@@ -1,13 +1,13 @@
 use Rattle.std.proofs.Common.{◌≡◌, length, All}
 use Rattle.std.specs.Prelude.{reverse}
-use Rattle.convex_outline.specs.Corners.{IsNear}
+use Rattle.convex_outline.specs.Corners.{IsNarrow}
 use Rattle.convex_outline.specs.Chains.{fallen}
 use Rattle.convex_outline.proofs.fall_back.Given as goal
 
 abbrev pub invariant-loop-chain : goal.invariant-loop-chain
 invariant-loop-chain l = record {
   fallen : fallen l.to (reverse l.chain.items) ≡ fallen l.to (reverse l.initial.chain.items);
-  near : All IsNear l.chain.items;
+  near : All IsNarrow l.chain.items;
 }
 
 abbrev pub decreases-loop-chain : goal.decreases-loop-chain

@@ -1,6 +1,6 @@
-use Rattle.integer_laws.specs.Members.{In-from_contains}
-use Rattle.model_laws.specs.Turning.{left_by_list}
-use Rattle.convex_outline.specs.Laws.{no_three_on_a_line}
+use Rattle.integer_laws.specs.Laws.Members.{In-from_contains}
+use Rattle.model_laws.specs.Laws.Turning.{left_by_list}
+use Rattle.convex_outline.specs.Laws.Within.{no_three_on_a_line}
 use Rattle.convex_outline.proofs.no_three_corners_on_a_line.Goals as goal
 
 pub returns : goal.returns

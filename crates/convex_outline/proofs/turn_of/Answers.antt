@@ -1,5 +1,5 @@
 use Rattle.std.proofs.Common.{arith}
-use Rattle.integer_laws.specs.Steps.{steps}
+use Rattle.integer_laws.specs.Laws.Steps.{steps}
 use Rattle.convex_outline.proofs.turn_of.Goals as goal
 
 pub returns : goal.returns

@@ -1,4 +1,4 @@
-use Rattle.integer_laws.specs.Members.{In-from_contains, Contains-from_in}
+use Rattle.integer_laws.specs.Laws.Members.{In-from_contains, Contains-from_in}
 use Rattle.mesh_checks.specs.Edges.{edges, each_once}
 use Rattle.mesh_checks.proofs.Sums.{Once-from_pairs, IsOnce-from_once}
 use Rattle.mesh_checks.proofs.Counts.{open_over, two_ends, once_each, has_excess}

@@ -4,8 +4,8 @@ use Rattle.std.proofs.Math.Nat.{mul-div-le, lt-div-mul-add}
 use Rattle.std.proofs.lemmas.Nat.{le-div, div_below}
 use Rattle.std.proofs.lemmas.Int.{ints}
 use Rattle.std.proofs.lemmas.Bool.{cases_order}
-use Rattle.integer_laws.specs.Ring as Ring
-use Rattle.integer_laws.specs.Order.{cancel_same}
+use Rattle.integer_laws.specs.Laws.Ring as Ring
+use Rattle.integer_laws.specs.Laws.Order.{cancel_same}
 use Rattle.seq_num.specs.Nearest.{IsNearest, half_up}
 
 -- u is within half of d from n / d; at a tie it is the number above

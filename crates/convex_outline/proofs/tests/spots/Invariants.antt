@@ -1,8 +1,8 @@
 use Rattle.std.proofs.Common.{All}
-use Rattle.convex_outline.specs.Corners.{IsNear}
+use Rattle.convex_outline.specs.Corners.{IsNarrow}
 use Rattle.convex_outline.proofs.tests.spots.Given as goal
 
 abbrev pub invariant-loop-pair : goal.invariant-loop-pair
 invariant-loop-pair l = record {
-  near : All IsNear l.spots.items;
+  near : All IsNarrow l.spots.items;
 }

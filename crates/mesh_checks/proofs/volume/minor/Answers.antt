@@ -1,5 +1,5 @@
 use Rattle.std.proofs.Common.{arith}
-use Rattle.integer_laws.specs.Steps.{steps, product_below}
+use Rattle.integer_laws.specs.Laws.Steps.{steps, product_below}
 use Rattle.mesh_checks.proofs.volume.minor.Goals as goal
 
 pub returns-clause-size : goal.returns-clause-size

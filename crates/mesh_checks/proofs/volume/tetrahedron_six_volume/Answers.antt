@@ -1,5 +1,5 @@
 use Rattle.std.proofs.Common.{arith}
-use Rattle.integer_laws.specs.Steps.{steps}
+use Rattle.integer_laws.specs.Laws.Steps.{steps}
 use Rattle.mesh_checks.proofs.volume.tetrahedron_six_volume.Goals as goal
 
 pub returns-clause-value : goal.returns-clause-value

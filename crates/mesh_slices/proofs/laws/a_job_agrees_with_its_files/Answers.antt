@@ -1,4 +1,4 @@
-use Rattle.mesh_slices.specs.AgreeingJobs.{agree_with_job}
+use Rattle.mesh_slices.specs.Laws.AgreeingJobs.{agree_with_job}
 use Rattle.mesh_slices.proofs.laws.a_job_agrees_with_its_files.Goals as goal
 
 pub returns : goal.returns

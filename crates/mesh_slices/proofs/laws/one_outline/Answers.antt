@@ -1,4 +1,4 @@
-use Rattle.mesh_slices.specs.Unique.{one_outline}
+use Rattle.mesh_slices.specs.Laws.Unique.{one_outline}
 use Rattle.mesh_slices.proofs.laws.one_outline.Goals as goal
 
 pub returns : goal.returns

@@ -1,5 +1,5 @@
 use Rattle.std.proofs.Common.{arith}
-use Rattle.integer_laws.specs.Steps.{steps}
+use Rattle.integer_laws.specs.Laws.Steps.{steps}
 use Rattle.mesh_slices.proofs.Pushes.{span_size, span_low}
 use Rattle.mesh_slices.proofs.outline.grains_of.Goals as goal
 

@@ -1,5 +1,5 @@
 use Rattle.std.proofs.Common.{arith}
-use Rattle.integer_laws.specs.Steps.{steps}
+use Rattle.integer_laws.specs.Laws.Steps.{steps}
 use Rattle.mesh_slices.specs.CornerPoints.{as_point}
 use Rattle.mesh_slices.proofs.Outlines.{four_is}
 use Rattle.mesh_slices.proofs.outline.spots_round.Goals as goal

@@ -1,5 +1,5 @@
 use Rattle.std.proofs.Common.{arith}
-use Rattle.integer_laws.specs.Steps.{steps}
+use Rattle.integer_laws.specs.Laws.Steps.{steps}
 use Rattle.mesh_slices.proofs.Pushes.{crossing_is}
 use Rattle.mesh_slices.proofs.points.crossing_of.Goals as goal
 

@@ -1,4 +1,4 @@
-use Rattle.model_laws.specs.Collisions.{contact_collides, collides_by_contact}
+use Rattle.model_laws.specs.Laws.Collisions.{contact_collides, collides_by_contact}
 use Rattle.model_laws.proofs.collisions.objects_collide_by_a_contact.Goals as goal
 
 pub returns-clause-if_a_contact_does : goal.returns-clause-if_a_contact_does

@@ -1,4 +1,4 @@
-use Rattle.model_laws.specs.Turning.{before_cases, before_from_cases, by_the_list}
+use Rattle.model_laws.specs.Laws.Turning.{before_cases, before_from_cases, by_the_list}
 use Rattle.model_laws.proofs.corners.corners_are_so_by_the_list.Goals as goal
 
 pub returns-clause-corners : goal.returns-clause-corners

@@ -1,4 +1,4 @@
-use Rattle.model_laws.specs.Grounds.{earned_is_grounded}
+use Rattle.model_laws.specs.Laws.Grounds.{earned_is_grounded}
 use Rattle.model_laws.proofs.splits.earned_splits_are_grounded.Goals as goal
 
 pub returns : goal.returns

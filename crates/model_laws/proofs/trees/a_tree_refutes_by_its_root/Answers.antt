@@ -1,4 +1,4 @@
-use Rattle.model_laws.specs.Roots.{refutes_bound, refutes_cycle, refutes_order, refutes_side, pending_never, nothing_never}
+use Rattle.model_laws.specs.Laws.Roots.{refutes_bound, refutes_cycle, refutes_order, refutes_side, pending_never, nothing_never}
 use Rattle.model_laws.proofs.trees.a_tree_refutes_by_its_root.Goals as goal
 
 pub returns-clause-bound : goal.returns-clause-bound

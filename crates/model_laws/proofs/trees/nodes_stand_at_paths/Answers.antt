@@ -1,4 +1,4 @@
-use Rattle.model_laws.specs.Reading.{children_are_paths, tree_of_paths}
+use Rattle.model_laws.specs.Laws.Reading.{children_are_paths, tree_of_paths}
 use Rattle.model_laws.proofs.trees.nodes_stand_at_paths.Goals as goal
 
 pub returns-clause-children : goal.returns-clause-children

@@ -1,7 +1,7 @@
 use Rattle.std.proofs.Common.{arith, ◌<◌, refl, sym, subst, ◌∙◌}
 use Rattle.std.proofs.lemmas.List.{length_push}
 use Rattle.std.proofs.lemmas.List.Elements.{All-push}
-use Rattle.order_graph.specs.Walks.{IsNext, ComesRound, IsWalk}
+use Rattle.order_graph.specs.Searches.{IsNext, ComesRound, IsWalk}
 use Rattle.order_graph.proofs.Lists.{room, once_push}
 use Rattle.order_graph.proofs.WayLaws.{EachNext-push, ring, starts_push}
 use Rattle.order_graph.proofs.walk.follow.Goals as goal

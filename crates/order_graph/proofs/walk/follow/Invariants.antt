@@ -1,6 +1,6 @@
 use Rattle.std.proofs.Common.{◌≡◌, ◌-◌, ◌<◌, [], ◌∷◌, ◌++◌, length, get_or, All}
 use Rattle.order_graph.specs.Orders.{IsOnce, EachNext}
-use Rattle.order_graph.specs.Walks.{IsNext}
+use Rattle.order_graph.specs.Searches.{IsNext}
 use Rattle.order_graph.proofs.walk.follow.Given as goal
 
 abbrev pub invariant-loop-place : goal.invariant-loop-place

@@ -1,10 +1,10 @@
 use Rattle.std.proofs.Common.{All, sym, subst}
-use Rattle.convex_outline.specs.Corners.{IsNear}
+use Rattle.convex_outline.specs.Corners.{IsNarrow}
 use Rattle.printer_text.proofs.HullLaws.{near_enough, kept_of, sound_part}
 use Rattle.printer_text.proofs.printer.kept_part.Goals as goal
 
 pub hull-requires : goal.hull-requires
-hull-requires c = subst (All IsNear) (sym c.as_slice.ensures) (near_enough c.args.part.corners c.requires.outline.near)
+hull-requires c = subst (All IsNarrow) (sym c.as_slice.ensures) (near_enough c.args.part.corners c.requires.outline.near)
 
 pub returns : goal.returns
 returns c =

@@ -2,7 +2,8 @@ use Rattle.std.proofs.Common.{◌≡◌, int_div, sym, ◌∙◌, subst₂, rule
 use Rattle.std.proofs.lemmas.Int.{to_z-of_z}
 use Rattle.std.specs.Int.{w64, w128}
 use Rattle.std.specs.Prelude.{FitsSigned}
-use Rattle.integer_laws.specs.Divisors.{IsGcdOf, Reduces, reduces_by_gcd}
+use Rattle.integer_laws.specs.Divisors.{IsGcdOf, Reduces}
+use Rattle.integer_laws.specs.Laws.Divisors.{reduces_by_gcd}
 use Rattle.seq_num.proofs.divisors.primitive.Goals as goal
 
 pub returns : goal.returns

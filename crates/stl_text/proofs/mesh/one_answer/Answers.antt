@@ -1,4 +1,4 @@
-use Rattle.stl_text.specs.Laws.{one_mesh, one_refusal, refused_no_mesh}
+use Rattle.stl_text.specs.Laws.Meshes.{one_mesh, one_refusal, refused_no_mesh}
 use Rattle.stl_text.proofs.mesh.one_answer.Goals as goal
 
 pub returns : goal.returns

@@ -1,5 +1,0 @@
-use Rattle.model_examples.proofs.PlacedLaws.{in_the_far_corner_is_valid}
-use Rattle.model_examples.proofs.plans.a_cube_in_the_far_corner.Goals as goal
-
-pub returns : goal.returns
-returns c = in_the_far_corner_is_valid

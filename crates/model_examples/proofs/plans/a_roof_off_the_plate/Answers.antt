@@ -1,5 +1,0 @@
-use Rattle.model_examples.proofs.PlacedLaws.{roof_off}
-use Rattle.model_examples.proofs.plans.a_roof_off_the_plate.Goals as goal
-
-pub returns : goal.returns
-returns c = roof_off

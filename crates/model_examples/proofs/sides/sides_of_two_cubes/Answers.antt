@@ -1,5 +1,0 @@
-use Rattle.model_examples.proofs.SideLaws.{cube_sides}
-use Rattle.model_examples.proofs.sides.sides_of_two_cubes.Goals as goal
-
-pub returns-clause-sides : goal.returns-clause-sides
-returns-clause-sides c = cube_sides

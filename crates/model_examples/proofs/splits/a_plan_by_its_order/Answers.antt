@@ -1,8 +1,0 @@
-use Rattle.model_examples.proofs.OrderLaws.{valid_low_first, invalid_tall_first}
-use Rattle.model_examples.proofs.splits.a_plan_by_its_order.Goals as goal
-
-pub returns-clause-low_first : goal.returns-clause-low_first
-returns-clause-low_first c = valid_low_first
-
-pub returns-clause-tall_first : goal.returns-clause-tall_first
-returns-clause-tall_first c = invalid_tall_first

@@ -1,5 +1,0 @@
-use Rattle.model_examples.proofs.CauseLaws.{both_ways}
-use Rattle.model_examples.proofs.splits.an_order_of_two_is_earned_both_ways.Goals as goal
-
-pub returns : goal.returns
-returns c = both_ways

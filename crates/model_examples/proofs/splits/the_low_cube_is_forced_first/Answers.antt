@@ -1,8 +1,0 @@
-use Rattle.model_examples.proofs.CauseLaws.{forced, neighbours}
-use Rattle.model_examples.proofs.splits.the_low_cube_is_forced_first.Goals as goal
-
-pub returns-clause-forced : goal.returns-clause-forced
-returns-clause-forced c = forced
-
-pub returns-clause-neighbours : goal.returns-clause-neighbours
-returns-clause-neighbours c = neighbours

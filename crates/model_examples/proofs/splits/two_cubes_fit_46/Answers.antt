@@ -1,5 +1,0 @@
-use Rattle.model_examples.proofs.PlanLaws.{valid}
-use Rattle.model_examples.proofs.splits.two_cubes_fit_46.Goals as goal
-
-pub returns-clause-valid : goal.returns-clause-valid
-returns-clause-valid c = valid
