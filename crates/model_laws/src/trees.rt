@@ -21,14 +21,18 @@ ghost use Rattle.model_laws.specs.Roots.{OrderRefutes, SideRefutes};
 /// list without nodes.
 pub fn a_tree_refutes_by_its_root()
     ensures bound { (job : Job) (e : ℕ) (path : List Choice) (mults : List Mult) (below : List Node)
-        → Refutes job e path (Nodes.Bound mults ∷ below) ↔ ((below ≡ []) × Contradiction (system job e path) mults) }
+        → Refutes job e path (Nodes.Bound mults ∷ below)
+        ↔ ((below ≡ []) × Contradiction (system job e path) mults) }
     ensures cycle { (job : Job) (e : ℕ) (path : List Choice) (objects : List ℕ) (below : List Node)
-        → Refutes job e path (Nodes.Cycle objects ∷ below) ↔ ((below ≡ []) × IsCycle (λ a b. Contains path (Choices.Before a b)) objects) }
+        → Refutes job e path (Nodes.Cycle objects ∷ below)
+        ↔ ((below ≡ []) × IsCycle (λ a b. Contains path (Choices.Before a b)) objects) }
     ensures order { (job : Job) (e : ℕ) (path : List Choice) (i j : ℕ) (below : List Node)
         → Refutes job e path (Nodes.Order i j ∷ below) ↔ OrderRefutes job e path i j below }
     ensures side { (job : Job) (e : ℕ) (path : List Choice) (contact : Contact) (children : ℕ) (below : List Node)
-        → Refutes job e path (Nodes.Side contact children ∷ below) ↔ SideRefutes job e path contact children below }
-    ensures pending { (job : Job) (e : ℕ) (path : List Choice) (below : List Node) → Refutes job e path (Nodes.Pending ∷ below) → ⊥ }
+        → Refutes job e path (Nodes.Side contact children ∷ below)
+        ↔ SideRefutes job e path contact children below }
+    ensures pending { (job : Job) (e : ℕ) (path : List Choice) (below : List Node)
+        → Refutes job e path (Nodes.Pending ∷ below) → ⊥ }
     ensures none { (job : Job) (e : ℕ) (path : List Choice) → Refutes job e path [] → ⊥ }
 {}
 
@@ -36,13 +40,18 @@ pub fn a_tree_refutes_by_its_root()
 /// stands at one.
 pub fn nodes_stand_at_paths()
     ensures children { (job : Job) (e : ℕ) (path : List Choice) (node : Node) (paths : List (List Choice))
-        → IsPath job path → IsSoundNode job e path node → AreChildren job path node paths → All (IsPath job) paths }
+        → IsPath job path → IsSoundNode job e path node → AreChildren job path node paths
+        → All (IsPath job) paths }
     ensures all { (job : Job) (e : ℕ) (nodes : List Node)
-        → Refutes job e [] nodes → IsTree job (λ path node. (IsSoundNode job e path node × IsClosed node) × IsPath job path) [] nodes }
+        → Refutes job e [] nodes
+        → IsTree job (λ path node. (IsSoundNode job e path node × IsClosed node)
+        × IsPath job path) [] nodes }
 {}
 
 /// A node of a tree stands at one path, and in an open tree this is a path of the job.
 pub fn a_node_stands_at_one_path()
-    ensures one { (job : Job) (nodes : List Node) (k : ℕ) (path other : List Choice) → StandsAt job nodes k path → StandsAt job nodes k other → path ≡ other }
-    ensures of_the_job { (job : Job) (e : ℕ) (tree : Tree) (k : ℕ) (path : List Choice) → OpenTree job e tree → StandsAt job tree.nodes k path → IsPath job path }
+    ensures one { (job : Job) (nodes : List Node) (k : ℕ) (path other : List Choice)
+        → StandsAt job nodes k path → StandsAt job nodes k other → path ≡ other }
+    ensures of_the_job { (job : Job) (e : ℕ) (tree : Tree) (k : ℕ) (path : List Choice)
+        → OpenTree job e tree → StandsAt job tree.nodes k path → IsPath job path }
 {}
