@@ -1,7 +1,9 @@
 //! Trees, by their roots.
 
-ghost use Rattle.std.specs.Prelude.{◌≡◌, ℕ, List, [], ◌∷◌, Contains, All, ◌↔◌};
-ghost use Rattle.seq_model.specs.Splits.{OpenTree, StandsAt};
+ghost use Rattle.std.specs.Prelude.{◌≡◌, ℕ, ◌*◌, List, [], ◌∷◌, Contains, All, length, slice_get, Some, ◌↔◌};
+ghost use Rattle.seq_model.specs.Splits.{Earned, Grounded, IsCertificate, IsWideNote, OpenTree, StandsAt};
+ghost use Rattle.seq_model.specs.Walks.{WalkWide};
+ghost use Rattle.seq_model.specs.declared.tree.WideNote.{WideNote};
 ghost use Rattle.seq_model.specs.Systems.{system, Contradiction};
 ghost use Rattle.seq_model.specs.Trees.{IsCycle, IsPath, AreChildren, IsSoundNode, IsClosed, IsTree, Refutes};
 ghost use Rattle.seq_model.specs.declared.job.Job.{Job};
@@ -54,4 +56,21 @@ pub fn a_node_stands_at_one_path()
         → StandsAt job nodes k path → StandsAt job nodes k other → path ≡ other }
     ensures of_the_job { (job : Job) (e : ℕ) (tree : Tree) (k : ℕ) (path : List Choice)
         → OpenTree job e tree → StandsAt job tree.nodes k path → IsPath job path }
+{}
+
+/// Each node of an open tree is sound at its path, and earned if it is a split; of a certificate each is closed too, and grounded.
+pub fn each_node_is_as_its_tree_says()
+    ensures of_an_open_tree { (job : Job) (e : ℕ) (tree : Tree) (k : ℕ) (path : List Choice) (node : Node)
+        → OpenTree job e tree → StandsAt job tree.nodes k path → slice_get tree.nodes k ≡ Some node
+        → IsSoundNode job e path node × Earned job e path node }
+    ensures of_a_certificate { (job : Job) (e : ℕ) (tree : Tree) (k : ℕ) (path : List Choice) (node : Node)
+        → IsCertificate job e tree → StandsAt job tree.nodes k path → slice_get tree.nodes k ≡ Some node
+        → (IsSoundNode job e path node × IsClosed node) × Grounded job e path node }
+{}
+
+/// A wide note tells of the walk of its own node's system, at the path that the node stands at.
+pub fn a_note_tells_of_its_nodes_walk()
+    ensures { (job : Job) (e : ℕ) (tree : Tree) (note : WideNote) (path : List Choice)
+        → IsWideNote job e tree note → StandsAt job tree.nodes note.node path
+        → WalkWide (2 * length job.objects) (system job e path) note.basis note.row }
 {}
