@@ -4,7 +4,7 @@
 #![tactic(auto)]
 
 ghost use Rattle.std.specs.Prelude.{◌≡◌, ◌≢◌, ◌↔◌, ◌<◌, length, IsTrue, IfSome};
-ghost use Rattle.order_graph.specs.Orders.{AreAmong};
+ghost use Rattle.object_orders.specs.Orders.{AreAmong};
 
 use order_graph::OrderGraph;
 use std::io;
