@@ -1,8 +1,8 @@
--- What an audit of a plan has to look at: four numbers for each object, and the contacts of each two.
+-- A plan is valid just where an audit finds no fault.
 --
---   BoxLiesIn region D place low high    the rectangle from low to high, moved by the place over the scale, lies in the region
---   IsAudited job e plan     each object stands in it once, its box lies in the region, and no contact of an earlier and a later one collides
---   audited_is_valid, valid_is_audited   this is what is valid
+--   in_by_box, box_by_in     an object's spots lie in the region just where its box does
+--   no_repeat                no two places are of one object
+--   audited_is_valid, valid_is_audited   what an audit looks at is what is valid
 use Rattle.std.proofs.Common.{◌≡◌, ◌≢◌, ℕ, ◌<◌, List, length, get_or, refl, subst, arith, ℤ, pos, ◌+ℤ◌, ◌*ℤ◌, ◌≤ℤ◌, All}
 use Rattle.std.proofs.lemmas.Int.{ints}
 use Rattle.std.proofs.lemmas.List.Elements.{All-get_or, All-from_get_or, All-weaker, All-contains}
@@ -10,7 +10,7 @@ use Rattle.std.specs.Prelude.{count_by, nat_eq}
 use Rattle.integer_laws.specs.Laws.Order.{mul_le}
 use Rattle.plan_laws.specs.Audits.{BoxLiesIn, BoxOf, IsAudited}
 use Rattle.model_laws.specs.Laws.Collisions.{contact_collides, collides_by_contact}
-use Rattle.plan_laws.specs.Inside.{region_at}
+use Rattle.plan_laws.specs.Inside.{region_at, IsInside}
 use Rattle.plan_laws.specs.Laws.ObjectSpans.{object_spans}
 use Rattle.plan_laws.specs.Laws.Ordered.{only_place}
 use Rattle.seq_model.specs.Jobs.{bands_of, object_at, scene_of_job}
@@ -38,16 +38,13 @@ spot_lies region d place low high s p box b = record {
   north = high_number d (region.low.y +ℤ region.h) high.y s.y place.y p b.north box.north;
 }
 
-abbrev pub IsIn : Job → ℕ → ℤ → Place → Type 0
-IsIn job e scale place = (b : ℕ) → b < (object_at job place.object).bands → All (LiesIn (region_at job e) scale place) ((scene_of_job job).spots place.object b)
-
-pub in_by_box : (job : Job) (e : ℕ) (scale : ℤ) (place : Place) → pos 1 ≤ℤ scale → place.object < length job.objects → BoxOf job e scale place → IsIn job e scale place
+pub in_by_box : (job : Job) (e : ℕ) (scale : ℤ) (place : Place) → pos 1 ≤ℤ scale → place.object < length job.objects → BoxOf job e scale place → IsInside job e scale place
 in_by_box job e scale place one known box b below =
     let o = object_at job place.object in
     All-weaker (Between o.low o.high) (LiesIn (region_at job e) scale place) (λ s between. spot_lies (region_at job e) scale place o.low o.high s (omega (arith, ints, one)) box between)
     ((scene_of_job job).spots place.object b) ((object_spans job place.object known).holds b below)
 
-pub box_by_in : (job : Job) (e : ℕ) (scale : ℤ) (place : Place) → place.object < length job.objects → IsIn job e scale place → BoxOf job e scale place
+pub box_by_in : (job : Job) (e : ℕ) (scale : ℤ) (place : Place) → place.object < length job.objects → IsInside job e scale place → BoxOf job e scale place
 box_by_in job e scale place known inside =
     let spans = object_spans job place.object known in
     let region = region_at job e in
@@ -86,7 +83,7 @@ audited_is_valid job e plan a = record {
   scale = a.scale;
   known = a.known;
   once = a.once;
-  inside = All-from_get_or (IsIn job e plan.scale) plan.places no_place
+  inside = All-from_get_or (IsInside job e plan.scale) plan.places no_place
       (λ k l. in_by_box job e plan.scale (get_or plan.places k no_place) a.scale (All-get_or (λ (p : Place). p.object < length job.objects) plan.places k no_place l a.known) (All-get_or (BoxOf job e plan.scale) plan.places k no_place l a.boxes));
   apart = λ i j d less within hits.
       (let p = get_or plan.places i d in
@@ -103,7 +100,7 @@ valid_is_audited job e plan v = record {
   known = v.known;
   once = v.once;
   boxes = All-from_get_or (BoxOf job e plan.scale) plan.places no_place
-      (λ k l. box_by_in job e plan.scale (get_or plan.places k no_place) (All-get_or (λ (p : Place). p.object < length job.objects) plan.places k no_place l v.known) (All-get_or (IsIn job e plan.scale) plan.places k no_place l v.inside));
+      (λ k l. box_by_in job e plan.scale (get_or plan.places k no_place) (All-get_or (λ (p : Place). p.object < length job.objects) plan.places k no_place l v.known) (All-get_or (IsInside job e plan.scale) plan.places k no_place l v.inside));
   apart = λ i j d less within contact earlier later hits.
       (let p = get_or plan.places i d in
       let r = get_or plan.places j d in

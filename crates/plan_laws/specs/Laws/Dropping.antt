@@ -1,8 +1,6 @@
 -- A tree that doesn't use a choice of its path serves the path without this choice, with the rows behind that of a side one lower.
 --
---   IsFreeOf x n node       the node doesn't use the choice x, whose row is n if it is a side: told by the node alone
---   dropped_node x n node   its rows behind n one lower, if x is a side
---   dropped                 so a tree below front ++ x ∷ back, free of x, makes one below front ++ back
+--   dropped   a tree below front ++ x ∷ back, free of x, makes one below front ++ back
 use Rattle.std.proofs.Common.{◌≡◌, ℕ, List, [], ◌∷◌, ◌++◌, Contains, length, map, refl, sym, ap, subst, ◌∙◌, arith, append_assoc, inl, inr, ◌⊎◌}
 use Rattle.std.specs.List.{AllZip}
 use Rattle.plan_laws.specs.Laws.Moved.{without_side}

@@ -1,9 +1,8 @@
 -- The bounds of a system hold just where every spot lies in the region.
 --
---   place_at job e d u o      the place of object o at the point u / d, over the scale d
---   IsBounded job e d u       no variable is negative, and the rows of the bounds are met
---   AreInside job e d u       every spot of every band of every object lies in the region at its place
---   inside_where_bounded, bounded_where_inside
+--   HasRoom job e d u o       object o's variables are at least 0, and under the bounds of its rows
+--   inside_where_bounded      where the bounds hold, every spot lies in the region
+--   bounded_where_inside      and where every spot does, the bounds hold
 use Rattle.std.proofs.Common.{◌≡◌, ℕ, zero, suc, ◌+◌, ◌*◌, ◌<◌, ◌≤◌, List, [], ◌∷◌, length, get_or, replicate, refl, sym, subst, arith, ℤ, pos, neg_ℤ, ◌+ℤ◌, ◌-ℤ◌, ◌*ℤ◌, ◌≤ℤ◌, ◌⊎◌, inl, inr, All}
 use Rattle.std.proofs.lemmas.Int.{ints}
 use Rattle.std.proofs.lemmas.List.{length-replicate}

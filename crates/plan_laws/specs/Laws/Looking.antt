@@ -1,9 +1,7 @@
 -- What follows at a point of a path from the orders that hold there: those of the path, and the forced ones.
 --
---   IsLooked job e path at a b   a before b is on the path, or forced at the point and the pair unordered on the path
 --   cycle_earns          a cycle of such orders runs along the path, or has a pair whose split is earned
---   Causes n orders Clash        what clashes in one order is ordered the other way
---   looked_causes        so it is where nothing on the path collides, and each unordered pair that does is forced the other way
+--   looked_causes        what collides at the point is ordered the other way by the path, or forced so
 --   order_is_valid       then an order of all objects that keeps the orders makes a valid plan
 use Rattle.std.proofs.Common.{◌≡◌, ℕ, ◌<◌, ◌≤◌, List, [], ◌∷◌, ◌++◌, AllPairs, Contains, Bool, true, false, length, get_or, refl, sym, ap, subst, ◌∙◌, arith, append_assoc, length-append, inl, inr, ◌⊎◌}
 use Rattle.std.proofs.lemmas.Bool.{cases_lt}
@@ -15,7 +13,7 @@ use Rattle.integer_laws.specs.Laws.Members.{In-from_contains, Contains-from_in}
 use Rattle.order_graph.specs.Orders.{IsAmong, AreAmong, IsOrder, IsSimpleCycle, EachNext, StandsBefore}
 use Rattle.plan_laws.specs.Ordered.{plan_of, orders_of}
 use Rattle.plan_laws.specs.Laws.Ordered.{orders_hold, one_place, plan_is_valid}
-use Rattle.plan_laws.specs.Looking.{OnPath, IsLooked, EarnsAPair, Causes}
+use Rattle.plan_laws.specs.Looking.{OnPath, IsLooked, AreLooked, AreForced, EarnsAPair, Causes}
 use Rattle.seq_model.specs.Jobs.{scene_of_job}
 use Rattle.seq_model.specs.Scenes.{Valid}
 use Rattle.seq_model.specs.Splits.{Values, IsOn, CollidesAt, IsUnordered, Precedes, AreNeighbours}
@@ -84,7 +82,7 @@ earns job e path at on a b off n = by (cases_lt a b)
 
 -- a cycle of the orders that hold at a point: it runs along the path, or two neighbours of it may be split
 pub cycle_earns : (job : Job) (e : ℕ) (path : List Choice) (at : Values) (orders : List (ℕ × ℕ)) (objects : List ℕ) → IsOn job e path at → AreAmong (length job.objects) orders
-    → ((a b : ℕ) → Contains orders (a, b) → IsLooked job e path at a b) → IsSimpleCycle orders objects → IsCycle (OnPath path) objects ⊎ EarnsAPair job e path
+    → AreLooked job e path at orders → IsSimpleCycle orders objects → IsCycle (OnPath path) objects ⊎ EarnsAPair job e path
 cycle_earns job e path at orders [] on among looked c = absurd (omega (arith, c.some))
 cycle_earns job e path at orders (x ∷ xs) on among looked c = by (round (Precedes job e path at) (OnPath path) (Off job path) (x ∷ xs) cycle parts)
   where
@@ -110,10 +108,9 @@ cycle_earns job e path at orders (x ∷ xs) on among looked c = by (round (Prece
     by (inr b) = inr (earns job e path at on b.0 b.1 b.2 b.3)
 
 -- ---- an order
-pub looked_causes : (job : Job) (e : ℕ) (path : List Choice) (at : Values) (forced : List (ℕ × ℕ)) → ((i j : ℕ) → (i ≡ j → ⊥) → OnPath path i j → CollidesAt job e at i j → ⊥)
-    → ((i j : ℕ) → i < length job.objects → j < length job.objects → (i ≡ j → ⊥) → IsUnordered path i j → CollidesAt job e at i j → Contains forced (j, i))
+pub looked_causes : (job : Job) (e : ℕ) (path : List Choice) (at : Values) (forced : List (ℕ × ℕ)) → AreForced job e path at forced
     → Causes (length job.objects) (orders_of path ++ forced) (CollidesAt job e at)
-looked_causes job e path at forced on_path unordered = record { turned = λ i j l m apart hits. by i j l m apart hits (is_before path i j) (is_before path j i) refl refl }
+looked_causes job e path at forced are = record { turned = λ i j l m apart hits. by i j l m apart hits (is_before path i j) (is_before path j i) refl refl }
   where
     never : (b : Bool) → b ≡ true → b ≡ false → ⊥
     never b t f = absurd (clash (sym t ∙ f))
@@ -125,9 +122,9 @@ looked_causes job e path at forced on_path unordered = record { turned = λ i j 
     absent i j f c = never (is_before path i j) (is_on path i j (In-from_contains path (Choices.Before i j) c)) f
 
     by : (i j : ℕ) → i < length job.objects → j < length job.objects → (i ≡ j → ⊥) → CollidesAt job e at i j → (p q : Bool) → is_before path i j ≡ p → is_before path j i ≡ q → Contains (orders_of path ++ forced) (j, i)
-    by i j l m apart hits true q ep eq = absurd (on_path i j apart (Contains-from_in path (Choices.Before i j) (before_is path i j ep)) hits)
+    by i j l m apart hits true q ep eq = absurd (are.on_path i j apart (Contains-from_in path (Choices.Before i j) (before_is path i j ep)) hits)
     by i j l m apart hits false true ep eq = Contains-append_left (orders_of path) forced (j, i) (Contains-from_in (orders_of path) (j, i) (orders_hold path j i (before_is path j i eq)))
-    by i j l m apart hits false false ep eq = Contains-append_right (orders_of path) forced (j, i) (unordered i j l m apart (absent i j ep, absent j i eq) hits)
+    by i j l m apart hits false false ep eq = Contains-append_right (orders_of path) forced (j, i) (are.unordered i j l m apart (absent i j ep, absent j i eq) hits)
 
 no_clash : (n : ℕ) (orders : List (ℕ × ℕ)) (Clash : ℕ → ℕ → Type 0) (objects : List ℕ) → IsOrder n orders objects → Causes n orders Clash → AllPairs (λ a b. Clash a b → ⊥) objects
 no_clash n orders Clash objects is causes p q d less within clash =

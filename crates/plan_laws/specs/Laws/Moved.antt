@@ -1,4 +1,8 @@
 -- Multipliers whose rows stand elsewhere in a longer or shorter system: they contradict there too.
+--
+--   IsSameRow rows more f m   the row of a multiplier is the same row at its new number
+--   moved                     so multipliers contradict there too
+--   without_side              and do so on the path without a side whose row they don't take
 use Rattle.std.proofs.Common.{◌≡◌, ℕ, suc, ◌+◌, ◌-◌, ◌<◌, ◌≤◌, ◌≤ℤ◌, ◌<ℤ◌, pos, ◌+ℤ◌, ◌*ℤ◌, cond, List, [], ◌∷◌, ◌++◌, All, length, map, get_or, refl, sym, ap, subst, ◌∙◌, arith, length-append, append_assoc, inl, inr, ◌⊎◌}
 use Rattle.integer_laws.specs.Vectors.{plus, scale}
 use Rattle.plan_laws.specs.Dropping.{move, lowered}
@@ -15,7 +19,6 @@ use Rattle.std.proofs.lemmas.Bool.{cases_lt, lt-ltb, le-ltb}
 use Rattle.std.proofs.lemmas.List.{get_or_append_left, get_or-append-add}
 use Rattle.std.proofs.lemmas.List.Elements.{All-nil, All-cons, All-head, All-tail}
 
--- the row of a multiplier is the same row elsewhere
 pub record IsSameRow (rows more : List Row) (f : ℕ → ℕ) (m : Mult) : Type 0 where
   pub known : f m.row < length more
   pub same : row_at more (f m.row) ≡ row_at rows m.row

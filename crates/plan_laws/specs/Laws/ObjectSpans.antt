@@ -1,8 +1,9 @@
 -- An object's low and high are the spans of its scene.
 --
---   corner_zone        a corner of the zones is one of a zone's, by the zone's number
+--   corner_zone, zone_corner a corner of the zones is one of a zone's, by the zone's number
+--   corners_some       an object has corners
 --   between            each corner of an object lies from its low to its high
---   reached            and its zones reach each of the four numbers
+--   least_at, greatest_at    some corner reaches the least number, and some the greatest
 --   object_spans       so these are the spans of the scene of the job
 use Rattle.std.proofs.Common.{◌≡◌, ℕ, zero, suc, ◌<◌, ◌≤◌, List, [], ◌∷◌, length, get_or, map, fold, refl, sym, subst, ap, ◌∙◌, arith, ℤ, ◌≤ℤ◌, ◌⊎◌, inl, inr, All, Contains, Option, Some, None}
 use Rattle.std.proofs.lemmas.Int.{fold-int_min_bounds, fold-int_min_reached}

@@ -17,7 +17,7 @@ use Rattle.integer_laws.specs.Laws.Members.{In-from_contains, Contains-from_in, 
 use Rattle.order_graph.specs.Orders.{IsOrder, StandsBefore}
 use Rattle.plan_laws.specs.Inside.{place_at, IsInside, IsBounded}
 use Rattle.plan_laws.specs.Laws.Inside.{inside_where_bounded}
-use Rattle.plan_laws.specs.Laws.PlanPoints.{no_place, values_of, rank_for, valid_stands, on_of_plan, clear_of_plan}
+use Rattle.plan_laws.specs.Laws.PlanPoints.{no_place, same_number, values_of, rank_for, valid_stands, on_of_plan, clear_of_plan}
 use Rattle.plan_laws.specs.Ordered.{Keeps, IsClear}
 use Rattle.plan_laws.specs.Ordered.{plan_of, AreApart, orders_of, OrderedPoint}
 use Rattle.seq_model.specs.Jobs.{scene_of_job}
@@ -38,9 +38,6 @@ count_mapped job e d u o (k ∷ objects) =
     sum_by-cons (λ (p : Place). cond (nat_eq p.object o) 1 0) (place_at job e d u k) (map (place_at job e d u) objects)
     ∙ ap (λ t. cond (nat_eq k o) 1 0 + t) (count_mapped job e d u o objects)
     ∙ sym (sum_by-cons (λ (m : ℕ). cond (nat_eq m o) 1 0) k objects)
-
-same_number : (a b : ℕ) → nat_eq a b ≡ true → a ≡ b
-same_number a b e = grind (arith, nat_tests)
 
 pub number_same : (a b : ℕ) → a ≡ b → nat_eq a b ≡ true
 number_same a b e = grind (arith, nat_tests)

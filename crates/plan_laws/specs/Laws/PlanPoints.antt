@@ -1,8 +1,13 @@
--- A valid plan is a point with an order of all objects in which nothing collides.
+-- The point of a valid plan, and its order by ranks.
 --
 --   place_for places o, rank_for places o    object o's place among the places, and how many stand before it
+--   Stands places o          object o has a place among them
+--   in_pairs f g k n         f and g of the n numbers from k, in turn
 --   values_of job e plan     the point of a plan: each object's distance from the low edges of the region
---   point_of_plan            a valid plan's point is one of the empty path, and clear by the ranks of its places
+--   place_again              an object's place at this point is its place of the plan
+--   valid_stands             each object stands in a valid plan
+--   on_of_plan               a valid plan's point is one of the empty path
+--   clear_of_plan            and clear by the ranks of its places
 use Rattle.std.proofs.Common.{◌≡◌, ℕ, zero, suc, ◌+◌, ◌*◌, ◌<◌, List, [], ◌∷◌, length, get_or, refl, sym, subst, ap, ap₂, ◌∙◌, append-nil, arith, ℤ, pos, ◌+ℤ◌, ◌-ℤ◌, ◌*ℤ◌, ◌≤ℤ◌, All, Bool, true, false, cond}
 use Rattle.std.proofs.lemmas.Bool.Decides.{nat_tests}
 use Rattle.std.proofs.lemmas.Int.{ints}
@@ -38,7 +43,7 @@ pub record Stands (places : List Place) (o : ℕ) : Type 0 where
   pub there : (d : Place) → get_or places (rank_for places o) d ≡ place_for places o
   pub object : (place_for places o).object ≡ o
 
-same_number : (a b : ℕ) → nat_eq a b ≡ true → a ≡ b
+pub same_number : (a b : ℕ) → nat_eq a b ≡ true → a ≡ b
 same_number a b e = grind (arith, nat_tests)
 
 stands : (places : List Place) (o : ℕ) → count_by (λ (p : Place). nat_eq p.object o) places ≡ 1 → Stands places o
