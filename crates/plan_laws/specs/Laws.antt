@@ -1,7 +1,6 @@
 -- Lemmas over the definitions, for proofs to cite: nothing here has to be believed.
 pub mod Audits
 pub mod Dropping
-pub mod Entries
 pub mod Inside
 pub mod Looking
 pub mod Members
@@ -12,3 +11,4 @@ pub mod Ordered
 pub mod Pasting
 pub mod PathRows
 pub mod PlanPoints
+pub mod SideRows

@@ -1,5 +1,6 @@
 pub mod Audits
 pub mod Dropping
+pub mod Gaps
 pub mod Inside
 pub mod Looking
 pub mod Members

@@ -11,7 +11,7 @@ use Rattle.integer_laws.specs.Laws.Order.{le_from, add_le, mul_le, le_of_same, m
 use Rattle.integer_laws.specs.Laws.Ring.{expand}
 use Rattle.integer_laws.specs.Vectors.{dot}
 use Rattle.integer_laws.specs.Laws.Vectors.{dot-zeros}
-use Rattle.plan_laws.specs.Laws.Entries.{dot_put, zero_at}
+use Rattle.plan_laws.specs.Laws.SideRows.{dot_put, zero_at}
 use Rattle.plan_laws.specs.Laws.ObjectSpans.{object_spans}
 use Rattle.plan_laws.specs.Inside.{region_at, place_at, IsBounded, IsInside, AreInside}
 use Rattle.seq_model.specs.Jobs.{bands_of, no_object, object_at, scene_of_job}
