@@ -12,9 +12,9 @@ ghost use Rattle.std.specs.Prelude.{◌≡◌, List, [], reverse, IfOk, All, Con
 ghost use Rattle.seq_model.specs.declared.printer.Spot.{Spot};
 ghost use Rattle.seq_model.specs.Points.{Point, at_spot};
 ghost use Rattle.seq_model.specs.Outlines.{Inner, Within};
-ghost use Rattle.convex_outline.specs.Corners.{turn, AreCorners, AreEnds, HasArea, IsNarrow, NoThreeOnALine};
-ghost use Rattle.convex_outline.specs.Hulls.{HullOf};
-ghost use Rattle.convex_outline.specs.Chains.{fallen, grown, both_chains, IsRising, SameMembers};
+ghost use Rattle.outline_laws.specs.Corners.{turn, AreCorners, AreEnds, HasArea, IsNarrow, NoThreeOnALine};
+ghost use Rattle.outline_laws.specs.Hulls.{HullOf};
+ghost use Rattle.outline_laws.specs.Chains.{fallen, grown, both_chains, IsRising, SameMembers};
 
 use integer_laws::{difference, wide_product};
 use seq_model::Spot;
@@ -113,22 +113,6 @@ pub fn hull(alloc: Global, spots: &[Spot]) -> Result<Vec<Spot>, NoMemory>
     }
     Ok(corners_of(alloc, sorted)?)
 }
-
-/// Each list of spots, however far they lie, has corners of this kind: members, with every member within them and the same inner
-/// points. It is what a polygon of differences stands on, whose spots no list in memory holds.
-pub fn every_list_has_corners()
-    ensures { (spots : List Spot) → HullOf spots }
-{}
-
-/// A list that has area has three corners or more: its corners are a polygon.
-pub fn a_list_with_area_has_a_polygon()
-    ensures { (spots : List Spot) (of : HullOf spots) → HasArea spots → 3 ≤ length of.corners }
-{}
-
-/// Three different corners never lie on one line, wherever they stand in the list.
-pub fn no_three_corners_on_a_line()
-    ensures { (corners : List Spot) → AreCorners corners → NoThreeOnALine corners }
-{}
 
 #[cfg(test)]
 mod tests;
