@@ -1,0 +1,3 @@
+pub mod Searches
+pub mod Sizes
+pub mod Laws
