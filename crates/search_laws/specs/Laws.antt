@@ -1,6 +1,7 @@
 -- Lemmas over the definitions, for proofs to cite: nothing here has to be believed.
 pub mod Allowance
 pub mod Counting
+pub mod Covering
 pub mod FewSides
 pub mod Gaps
 pub mod MostSides

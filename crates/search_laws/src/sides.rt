@@ -1,10 +1,15 @@
 //! The sides of a contact.
 
-ghost use Rattle.std.specs.Prelude.{ℕ, ◌≤◌, pos, ◌≤ℤ◌, List, Contains, ◌↔◌};
+ghost use Rattle.std.specs.Prelude.{◌≡◌, ◌≢◌, ℕ, ◌≤◌, pos, ◌≤ℤ◌, List, Contains, ◌↔◌};
+ghost use Rattle.integer_laws.specs.Members.{In};
 ghost use Rattle.plan_laws.specs.Gaps.{gap_at};
+ghost use Rattle.search_laws.specs.Covering.{AreEnough};
 ghost use Rattle.seq_model.specs.Budgets.{HasSides, IsMostSides, Full};
-ghost use Rattle.seq_model.specs.Contacts.{IsContact, points_of};
+ghost use Rattle.seq_model.specs.Contacts.{ContactCollides, IsContact, points_of};
+ghost use Rattle.seq_model.specs.Jobs.{scene_of_job};
 ghost use Rattle.seq_model.specs.Outlines.{Inner};
+ghost use Rattle.seq_model.specs.Points.{Point, IsPoint};
+ghost use Rattle.seq_model.specs.Scenes.{Collides};
 ghost use Rattle.seq_model.specs.Sides.{AreSides};
 ghost use Rattle.seq_model.specs.Splits.{Values, IsOn, ContactCollidesAt};
 ghost use Rattle.seq_model.specs.Trees.{IsPath};
@@ -25,6 +30,13 @@ pub fn a_contact_has_sides()
 pub fn a_contact_collides_where_its_gap_is_inner()
     ensures { (job : Job) (e : ℕ) (at : Values) (contact : Contact) → pos 1 ≤ℤ at.d
         → ContactCollidesAt job e at contact ↔ (IsContact job contact × Inner (points_of job contact) (gap_at job e at.d at.u contact)) }
+{}
+
+/// It is enough to look at contacts that cover the others of the same two objects in the same order: where none of these collides at two
+/// places, the objects don't.
+pub fn covering_contacts_are_enough()
+    ensures { (job : Job) (kept : List Contact) → AreEnough job kept → (p r : Point) → IsPoint p → IsPoint r → (i j : ℕ) → i ≢ j
+        → ((k : Contact) → In k kept → k.i ≡ i → k.j ≡ j → ContactCollides job k p r → ⊥) → Collides (scene_of_job job) i p j r → ⊥ }
 {}
 
 /// A contact doesn't collide at a point of a path of the job that has one of its sides: so none is opened twice.

@@ -1,4 +1,9 @@
 -- The allowances of the children of a split that is earned sum to at most that of its path.
+--
+--   Longer path more             what is on a path is on the longer one, which is fair too
+--   order_shares, side_shares    an order, or a side of a contact that isn't opened yet, shares its path's allowance
+--   full_is_enough               so a tree of earned splits has fewer nodes than Full
+--   spent_below_full             and a spent tree's budget is below it
 use Rattle.std.proofs.Common.{◌≡◌, ◌≢◌, ℕ, suc, ◌+◌, ◌*◌, ◌^◌, ◌<◌, ◌≤◌, Bool, true, false, cond, eqb, ◌&&◌, ◌||◌, List, [], ◌∷◌, All, Contains, length, map, max, refl, sym, ap, subst, ◌∙◌, arith, add-one, inl, inr, ◌⊎◌}
 use Rattle.std.proofs.Math.Nat.{mul-le-mul, pow-le-pow_right, le_of_mul-le-mul_right, pow-suc, one-le-pow}
 use Rattle.std.proofs.lemmas.List.{length-map}
@@ -29,7 +34,6 @@ use Rattle.seq_model.specs.declared.tree.Node.{Node}
 use Rattle.seq_model.specs.declared.tree.Node.TheVariants as Nodes
 use Rattle.std.proofs.lemmas.Bool.{eqb-true, eq-eqb, cases_lt}
 
--- what a path has is on a longer one, which is fair too
 pub record Longer (path more : List Choice) : Type 0 where
   pub before : (i j : ℕ) → is_before path i j ≡ true → is_before more i j ≡ true
   pub opened : (c : Contact) → is_opened path c ≡ true → is_opened more c ≡ true
