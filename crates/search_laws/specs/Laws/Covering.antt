@@ -20,7 +20,7 @@ use Rattle.seq_model.specs.Jobs.{zone_at, part_at, scene_of_job}
 use Rattle.seq_model.specs.Outlines.{Inner}
 use Rattle.seq_model.specs.Points.{Point, IsPoint, minus}
 use Rattle.seq_model.specs.Scenes.{Collides}
-use Rattle.seq_model.specs.Sides.{along, greatest_along, Beyond}
+use Rattle.seq_model.specs.Sides.{along, greatest_along}
 use Rattle.seq_model.specs.declared.job.Job.{Job}
 use Rattle.seq_model.specs.declared.printer.Spot.{Spot}
 use Rattle.seq_model.specs.declared.tree.Contact.{Contact}
