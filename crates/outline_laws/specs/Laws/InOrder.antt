@@ -7,6 +7,7 @@
 --   walk last ds             the fresh ones along ds, reduced
 --   IsAscending ds           none comes before an earlier one
 --   ascending_from_sorted    so a sort leaves them
+--   sides_of_corners, sides_of_difference     what is reduced of the edges are the sides
 --   walk_is                  a walk of an ascending list gives each direction once, by angle
 use Rattle.std.proofs.Common.{◌≡◌, ℕ, zero, suc, ◌+◌, ◌<◌, ◌≤◌, List, [], ◌∷◌, length, get_or, refl, ap, sym, subst, ◌∙◌, arith, ℤ, pos, neg_ℤ, ◌+ℤ◌, ◌-ℤ◌, ◌*ℤ◌, ◌≤ℤ◌, ◌<ℤ◌, ◌⊎◌, inl, inr, ◌↔◌, Bool, true, false, cond, ◌&&◌, ◌||◌, not, Option, Some, None, All, AllPairs, Contains, int_div, unsigned_abs, IsPermutation}
 use Rattle.std.specs.Prelude.{int_lt}
@@ -22,13 +23,16 @@ use Rattle.integer_laws.specs.Divisors.{Reduces, IsPrimitive, IsGcdOf}
 use Rattle.integer_laws.specs.Laws.Divisors.{gcd_is, reduces_by_gcd, reduced_unique}
 use Rattle.integer_laws.specs.Members.{In}
 use Rattle.integer_laws.specs.Laws.Members.{In-from_contains, Contains-from_in, All-from_in}
-use Rattle.seq_model.specs.Sides.{IsUpper, HasLesserAngle}
+use Rattle.seq_model.specs.Contacts.{difference}
+use Rattle.seq_model.specs.Sides.{HasLesserAngle, Side, AreSides}
+use Rattle.seq_model.specs.declared.printer.Spot.{Spot}
+use Rattle.outline_laws.specs.Corners.{AreCorners}
 use Rattle.seq_model.specs.declared.tree.Dir.{Dir}
 use Rattle.outline_laws.specs.Directions.{IsDirection, HaveSameAngle, IsGoodAfter, AllReduced, After, angle_cmp, crossed, upper, lesser, is_zero, is_after}
-use Rattle.outline_laws.specs.Edges.{Across}
-use Rattle.outline_laws.specs.Laws.Ahead.{lesser_is, is_lesser, direction_of, no_direction, no_truth, after_is, not_after}
+use Rattle.outline_laws.specs.Edges.{Across, edges_of, all_edges}
+use Rattle.outline_laws.specs.Laws.Ahead.{side_across, lesser_is, is_lesser, direction_of, no_direction, no_truth, after_is, not_after}
 use Rattle.outline_laws.specs.Laws.Angles.{compare_angles, lesser_trans, lesser_congr, lesser_congr_right, lesser_not_back, same_not_lesser, same_reduced, same_turned, reduced_direction, one_primitive}
-use Rattle.outline_laws.specs.Laws.Around.{long_direction}
+use Rattle.outline_laws.specs.Laws.Around.{AreOutlines, long_direction, sides_are}
 use Rattle.outline_laws.specs.Laws.Sides.{some_size}
 
 -- ---- the order
@@ -267,3 +271,12 @@ walk_is ds es p sorted = record {
 
     forth : (dir : Dir) → Across ds dir → Across es dir
     forth dir x = record { long = x.long; member = In-from_contains es x.long (Contains-permutation ds es x.long p (Contains-from_in ds x.long x.member)); reduces = x.reduces }
+
+pub sides_reduced : (S : List Spot) (ds dirs : List Dir) → ((dir : Dir) → Side S dir ↔ Across ds dir) → AllReduced ds dirs → AreSides S dirs
+sides_reduced S ds dirs sides all = record { each = λ dir. ((λ c. (sides dir).1 ((all.each dir).0 c)), λ s. (all.each dir).1 ((sides dir).0 s)); order = all.order }
+
+pub sides_of_corners : (C : List Spot) (dirs : List Dir) → AreCorners C → AllReduced (edges_of C) dirs → AreSides C dirs
+sides_of_corners C dirs are all = sides_reduced C (edges_of C) dirs (λ dir. side_across C dir are) all
+
+pub sides_of_difference : (A B F : List Spot) (dirs : List Dir) → AreOutlines A B F → AllReduced (all_edges A B F) dirs → AreSides (difference A B F) dirs
+sides_of_difference A B F dirs o all = sides_reduced (difference A B F) (all_edges A B F) dirs (sides_are A B F o) all
