@@ -1,11 +1,12 @@
-//! Convex outlines of lists of lattice points.
+//! Convex outlines of lists of lattice points: their corners, what is inner to them, and their sides.
 //!
 //! `hull` gives the corners of the convex hull of a list: members of it, counterclockwise from the least, of which any three
 //! turn left. Its main clause says that nothing is lost: a point is a mean of all corners with positive weights exactly where
 //! it is one of all members of the list. A list of no point, of one point or of points on one line is no case of its own.
+//! `is_inner` says exactly which points these are, and `sides` gives exactly the sides, by angle.
 //!
-//! Spots of meshes come in, and what collides is then decided by corners alone. `specs/Corners.antt` has the words of the
-//! contracts, and the other modules of `specs/` the geometry, from weights and turns to the polygon of any list.
+//! Spots of meshes come in, and what collides is then decided by corners alone. The words of the contracts and the geometry are
+//! those of `outline_laws`, and the edges by angle those of `outline_edges`.
 #![tactic(auto)]
 
 ghost use Rattle.std.specs.Prelude.{◌≡◌, List, [], reverse, IfOk, All, Contains, ◌<◌, ◌≤◌, length, ◌^◌, ◌-ℤ◌, unsigned_abs, ◌↔◌};
@@ -15,6 +16,12 @@ ghost use Rattle.seq_model.specs.Outlines.{Inner, Within};
 ghost use Rattle.outline_laws.specs.Corners.{turn, AreCorners, AreEnds, HasArea, IsNarrow, NoThreeOnALine};
 ghost use Rattle.outline_laws.specs.Hulls.{HullOf};
 ghost use Rattle.outline_laws.specs.Chains.{fallen, grown, both_chains, IsRising, SameMembers};
+
+mod inner;
+mod outward;
+
+pub use inner::is_inner;
+pub use outward::sides;
 
 use integer_laws::{difference, wide_product};
 use seq_model::Spot;

@@ -11,16 +11,20 @@
 --   is_ahead d best         whether d comes before the best, or there is none
 --   better after best d     d where it comes after `after` and before the best, else the best
 --   first_after after best ds      the first of them after a direction
+--   angle_cmp d e           by angle, and (0, 0) behind all
+--   AllReduced ds dirs      the directions of ds, reduced, each once and by angle
 --   After after d           d comes after the direction, or there is none
 --   IsNext S after r        r is the first side of S after the direction; None where there is none
 --   IsGoodAfter after       it isn't (0, 0)
 --   IsReduced long short    the one is the other, reduced
-use Rattle.std.specs.Prelude.{◌≡◌, ◌<◌, ◌^◌, List, [], ◌∷◌, ℤ, pos, ◌-ℤ◌, ◌*ℤ◌, ◌⊎◌, ◌↔◌, Bool, true, false, cond, ◌&&◌, ◌||◌, Option, Some, None, unsigned_abs, int_lt}
-use Rattle.std.specs.Ordering.{int_eq}
+use Rattle.std.specs.Prelude.{◌≡◌, ◌<◌, ◌^◌, List, [], ◌∷◌, ℤ, pos, ◌-ℤ◌, ◌*ℤ◌, ◌⊎◌, ◌↔◌, Bool, true, false, cond, ◌&&◌, ◌||◌, Option, Some, None, unsigned_abs, int_lt, Contains, AllPairs}
+use Rattle.std.specs.declared.cmp.Ordering.{Ordering}
+use Rattle.std.specs.Ordering.{int_eq, int_cmp, bool_cmp, ordering_then}
 use Rattle.integer_laws.specs.Divisors.{Reduces}
 use Rattle.seq_model.specs.Sides.{Side, IsUpper, HasLesserAngle}
 use Rattle.seq_model.specs.declared.printer.Spot.{Spot}
 use Rattle.seq_model.specs.declared.tree.Dir.{Dir}
+use Rattle.outline_laws.specs.Edges.{Across}
 
 abbrev pub crossed : Dir → Dir → ℤ
 crossed d e = d.x *ℤ e.y -ℤ d.y *ℤ e.x
@@ -61,6 +65,13 @@ better after best d = cond (is_zero d) best (cond (is_after after d) (cond (is_a
 abbrev pub first_after : Option Dir → Option Dir → List Dir → Option Dir
 first_after after best [] = best
 first_after after best (d ∷ ds) = first_after after (better after best d) ds
+
+abbrev pub angle_cmp : Dir → Dir → Ordering
+angle_cmp d e = cond (is_zero d || is_zero e) (bool_cmp (is_zero d) (is_zero e)) (ordering_then (bool_cmp (upper e) (upper d)) (int_cmp (d.y *ℤ e.x) (d.x *ℤ e.y)))
+
+pub record AllReduced (ds dirs : List Dir) : Type 0 where
+  pub each : (dir : Dir) → Contains dirs dir ↔ Across ds dir
+  pub order : AllPairs HasLesserAngle dirs
 
 abbrev pub After : Option Dir → Dir → Type 0
 After None d = Unit {0}

@@ -11,6 +11,7 @@ pub mod Differences
 pub mod Edges
 pub mod EveryList
 pub mod Fan
+pub mod InOrder
 pub mod Inside
 pub mod Keeping
 pub mod Left

@@ -160,13 +160,6 @@ inner_is_clear A B F q o h is =
     let c = free_is_clear A B F q o h in
     (λ e. inner_of_free (difference A B F) q area is (c.0 e), λ m. c.1 (free_of_inner (difference A B F) q area m))
 
--- what fits the numbers of the code
-pub record IsTame (q : RatPoint) : Type 0 where
-  pub x : unsigned_abs q.x < 2 ^ 91
-  pub y : unsigned_abs q.y < 2 ^ 91
-  pub d : unsigned_abs q.d < 2 ^ 62
-  pub positive : pos 1 ≤ℤ q.d
-
 pub greatest_sum : (dir : Dir) (A B F : List Spot) → 1 ≤ length A → 1 ≤ length B → 1 ≤ length F → greatest_along dir (difference A B F) ≡ (greatest_along dir A +ℤ greatest_along (back dir) B) +ℤ greatest_along (back dir) F
 greatest_sum dir [] B F p q r = absurd (omega (arith, p))
 greatest_sum dir (a ∷ A) [] F p q r = absurd (omega (arith, q))

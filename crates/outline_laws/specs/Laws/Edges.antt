@@ -112,13 +112,13 @@ pub side_of_normal : (C : List Spot) (dir : Dir) → AreCorners C → HasNormal 
 side_of_normal C dir are h = side_of_edge C h.a h.b dir (from_in C h.a h.b h.edge) (to_in C h.a h.b h.edge) (normal_apart h.a h.b dir h.normal) (outline_seen C are h.a h.b h.edge) h.normal
 
 -- ---- directions across one line
-square_nonneg : (x : ℤ) → pos 0 ≤ℤ (x *ℤ x)
+pub square_nonneg : (x : ℤ) → pos 0 ≤ℤ (x *ℤ x)
 square_nonneg x = by_lt_z x (pos 0) (λ h. turned (mul_nonneg (neg_ℤ x) (neg_ℤ x) (omega (arith, ints)) (omega (arith, ints)))) (λ h. mul_nonneg x x h h)
   where
     turned : pos 0 ≤ℤ (neg_ℤ x *ℤ neg_ℤ x) → pos 0 ≤ℤ (x *ℤ x)
     turned h = le_from h (simp expand (omega (arith, ints)))
 
-square_positive : (x : ℤ) → (x ≡ pos 0 → ⊥) → pos 0 <ℤ (x *ℤ x)
+pub square_positive : (x : ℤ) → (x ≡ pos 0 → ⊥) → pos 0 <ℤ (x *ℤ x)
 square_positive x n = by_lt_z x (pos 0) (λ h. turned (mul_positive (neg_ℤ x) (neg_ℤ x) (omega (arith, ints)) (omega (arith, ints)))) (λ h. by_lt_z (pos 0) x (λ k. mul_positive x x k k) (λ k. absurd (n (omega (arith, ints)))))
   where
     turned : pos 0 <ℤ (neg_ℤ x *ℤ neg_ℤ x) → pos 0 <ℤ (x *ℤ x)

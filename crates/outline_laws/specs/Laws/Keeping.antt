@@ -47,7 +47,7 @@ end_y : (hx hy : ℤ) (t b : Spot) (q : Point) → turn_at t b q ≡ pos 0
 end_y hx hy t b q e = same_from (mul_same (neg_ℤ (q.d *ℤ hx)) e) (simp expand (omega (arith, ints)))
 
 -- the weights of two ends are the distances from the other one
-mean_of_ends : (least hx hy : ℤ) (t b : Spot) (q : Point) → IsPoint q → turn_at t b q ≡ pos 0 → pos 0 <ℤ ((height hx hy b *ℤ q.d -ℤ along hx hy q) +ℤ (along hx hy q -ℤ height hx hy t *ℤ q.d))
+pub mean_of_ends : (least hx hy : ℤ) (t b : Spot) (q : Point) → IsPoint q → turn_at t b q ≡ pos 0 → pos 0 <ℤ ((height hx hy b *ℤ q.d -ℤ along hx hy q) +ℤ (along hx hy q -ℤ height hx hy t *ℤ q.d))
     → least ≤ℤ (height hx hy b *ℤ q.d -ℤ along hx hy q) → least ≤ℤ (along hx hy q -ℤ height hx hy t *ℤ q.d) → IsMean least (t ∷ b ∷ []) q
 mean_of_ends least hx hy t b q is e p h k =
     record {
@@ -62,7 +62,7 @@ mean_of_ends least hx hy t b q is e p h k =
     some_is : (m n : ℤ) → pos 0 <ℤ (m +ℤ n) → pos 1 ≤ℤ (m *ℤ pos 1 +ℤ (n *ℤ pos 1 +ℤ pos 0))
     some_is m n p = omega (arith, ints)
 
-on_segment : (t b : Spot) (S : List Spot) (q : Point) → ((s : Spot) → In s S → turn t b s ≡ pos 0) → Inner S q → turn_at t b q ≡ pos 0
+pub on_segment : (t b : Spot) (S : List Spot) (q : Point) → ((s : Spot) → In s S → turn t b s ≡ pos 0) → Inner S q → turn_at t b q ≡ pos 0
 on_segment t b S q h m =
     let x = t.y -ℤ b.y in
     let y = b.x -ℤ t.x in
