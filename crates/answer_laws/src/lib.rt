@@ -21,21 +21,26 @@ ghost use Rattle.seq_model.specs.declared.tree.Tree.{Tree};
 /// Where a tree refutes an extent for a job, no plan of the files that the job was made from is valid there, nor at a smaller one. Where
 /// it refutes the whole grid none is valid anywhere.
 pub fn a_refuted_job_has_no_plan_of_its_files()
-    ensures below { (listed : List Part) (meshes : List (List Facet)) (job : Job) → IsMadeFrom listed meshes job
-        → (e f : ℕ) (tree : Tree) (plan : Plan) → TreeRefutes job e tree → f ≤ e → e ≤ job.printer.grid
+    ensures below { (listed : List Part) (meshes : List (List Facet)) (job : Job)
+        → IsMadeFrom listed meshes job → (e f : ℕ) (tree : Tree) (plan : Plan)
+        → TreeRefutes job e tree → f ≤ e → e ≤ job.printer.grid
         → Valid (scene_of_files (description_of job.printer listed) meshes) f plan → ⊥ }
-    ensures anywhere { (listed : List Part) (meshes : List (List Facet)) (job : Job) → IsMadeFrom listed meshes job
-        → (f : ℕ) (tree : Tree) (plan : Plan) → TreeRefutes job job.printer.grid tree
+    ensures anywhere { (listed : List Part) (meshes : List (List Facet)) (job : Job)
+        → IsMadeFrom listed meshes job → (f : ℕ) (tree : Tree) (plan : Plan)
+        → TreeRefutes job job.printer.grid tree
         → Valid (scene_of_files (description_of job.printer listed) meshes) f plan → ⊥ }
 {}
 
 /// And where, besides, a plan of these files is valid at the next extent, that extent is their least one; a plan at extent 1 shows it by
 /// itself.
 pub fn a_plan_and_a_tree_show_the_least_extent_of_the_files()
-    ensures next { (listed : List Part) (meshes : List (List Facet)) (job : Job) → IsMadeFrom listed meshes job
-        → (e : ℕ) (plan : Plan) (tree : Tree) → Valid (scene_of_files (description_of job.printer listed) meshes) (e + 1) plan
-        → TreeRefutes job e tree → Least (scene_of_files (description_of job.printer listed) meshes) (e + 1) }
-    ensures first { (listed : List Part) (meshes : List (List Facet)) (job : Job) → IsMadeFrom listed meshes job
-        → (plan : Plan) → Valid (scene_of_files (description_of job.printer listed) meshes) 1 plan
+    ensures next { (listed : List Part) (meshes : List (List Facet)) (job : Job)
+        → IsMadeFrom listed meshes job → (e : ℕ) (plan : Plan) (tree : Tree)
+        → Valid (scene_of_files (description_of job.printer listed) meshes) (e + 1) plan
+        → TreeRefutes job e tree
+        → Least (scene_of_files (description_of job.printer listed) meshes) (e + 1) }
+    ensures first { (listed : List Part) (meshes : List (List Facet)) (job : Job)
+        → IsMadeFrom listed meshes job → (plan : Plan)
+        → Valid (scene_of_files (description_of job.printer listed) meshes) 1 plan
         → Least (scene_of_files (description_of job.printer listed) meshes) 1 }
 {}

@@ -17,26 +17,32 @@ ghost use Rattle.seq_model.specs.declared.tree.Tree.{Tree};
 /// collides there with a later one. The order may be a list, or ranks of the objects; and none is left to any path that has the choices
 /// of this one.
 pub fn a_refuted_path_has_no_clear_point()
-    ensures ordered { (job : Job) (e : ℕ) (path : List Choice) (nodes : List Node) → Refutes job e path nodes → OrderedPoint job e path → ⊥ }
+    ensures ordered { (job : Job) (e : ℕ) (path : List Choice) (nodes : List Node)
+        → Refutes job e path nodes → OrderedPoint job e path → ⊥ }
     ensures ranked { (job : Job) (e : ℕ) (path : List Choice) (nodes : List Node) (at : Values) (rank : ℕ → ℕ)
-        → Refutes job e path nodes → IsOn job e path at → Keeps path rank → IsClear job e at rank → ⊥ }
-    ensures longer { (job : Job) (e : ℕ) (part path : List Choice) (nodes : List Node) (at : Values) (rank : ℕ → ℕ) → IsPart part path
-        → Refutes job e part nodes → IsOn job e path at → Keeps path rank → IsClear job e at rank → ⊥ }
+        → Refutes job e path nodes → IsOn job e path at → Keeps path rank → IsClear job e at rank
+        → ⊥ }
+    ensures longer { (job : Job) (e : ℕ) (part path : List Choice) (nodes : List Node) (at : Values) (rank : ℕ → ℕ)
+        → IsPart part path → Refutes job e part nodes → IsOn job e path at → Keeps path rank
+        → IsClear job e at rank → ⊥ }
 {}
 
 /// Where a tree refutes an extent no plan is valid there, whatever its order and its rational places, nor at a smaller one. Where it
 /// refutes the whole grid none is valid anywhere.
 pub fn a_refuted_extent_has_no_plan()
-    ensures here { (job : Job) (e : ℕ) (tree : Tree) (plan : Plan) → TreeRefutes job e tree → Valid (scene_of_job job) e plan → ⊥ }
-    ensures below { (job : Job) (e f : ℕ) (tree : Tree) (plan : Plan) → TreeRefutes job e tree → f ≤ e → e ≤ job.printer.grid
-        → Valid (scene_of_job job) f plan → ⊥ }
-    ensures anywhere { (job : Job) (f : ℕ) (tree : Tree) (plan : Plan) → TreeRefutes job job.printer.grid tree
-        → Valid (scene_of_job job) f plan → ⊥ }
+    ensures here { (job : Job) (e : ℕ) (tree : Tree) (plan : Plan) → TreeRefutes job e tree
+        → Valid (scene_of_job job) e plan → ⊥ }
+    ensures below { (job : Job) (e f : ℕ) (tree : Tree) (plan : Plan) → TreeRefutes job e tree
+        → f ≤ e → e ≤ job.printer.grid → Valid (scene_of_job job) f plan → ⊥ }
+    ensures anywhere { (job : Job) (f : ℕ) (tree : Tree) (plan : Plan)
+        → TreeRefutes job job.printer.grid tree → Valid (scene_of_job job) f plan → ⊥ }
 {}
 
 /// So a plan at the next extent shows with the tree that this is the least one; and a plan at extent 1 shows it by itself.
 pub fn a_plan_and_a_tree_show_the_least_extent()
-    ensures next { (job : Job) (e : ℕ) (plan : Plan) (tree : Tree) → Valid (scene_of_job job) (e + 1) plan → TreeRefutes job e tree
+    ensures next { (job : Job) (e : ℕ) (plan : Plan) (tree : Tree)
+        → Valid (scene_of_job job) (e + 1) plan → TreeRefutes job e tree
         → Least (scene_of_job job) (e + 1) }
-    ensures first { (job : Job) (plan : Plan) → Valid (scene_of_job job) 1 plan → Least (scene_of_job job) 1 }
+    ensures first { (job : Job) (plan : Plan) → Valid (scene_of_job job) 1 plan
+        → Least (scene_of_job job) 1 }
 {}

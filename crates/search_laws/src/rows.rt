@@ -16,9 +16,10 @@ ghost use Rattle.seq_model.specs.declared.tree.Dir.{Dir};
 /// The two numbers of a side of a list whose spots are at most n in size are at most 2n; those of a contact's side are at most
 /// 2,002,000, below 2^21, since each of its sides is one of an outline, turned round or not.
 pub fn a_side_is_small()
-    ensures of_a_list { (spots : List Spot) (dir : Dir) (n : ℕ) → All (IsNearSpot n) spots → Side spots dir → IsSized (n + n) dir.x dir.y }
-    ensures of_a_contact { (job : Job) (contact : Contact) (dir : Dir) → IsContact job contact → Side (points_of job contact) dir
-        → IsSized 2_002_000 dir.x dir.y }
+    ensures of_a_list { (spots : List Spot) (dir : Dir) (n : ℕ) → All (IsNearSpot n) spots
+        → Side spots dir → IsSized (n + n) dir.x dir.y }
+    ensures of_a_contact { (job : Job) (contact : Contact) (dir : Dir) → IsContact job contact
+        → Side (points_of job contact) dir → IsSized 2_002_000 dir.x dir.y }
 {}
 
 /// The rows of a path of the job have two coefficients for each object, below 2^21 in size, and constants below 2^44.

@@ -21,7 +21,8 @@ ghost use Rattle.seq_model.specs.declared.tree.Dir.{Dir};
 
 /// A contact has a list of sides: three or more, and at most 8,008,036, as many as its three outlines can have corners.
 pub fn a_contact_has_sides()
-    ensures some { (job : Job) (contact : Contact) → IsContact job contact → (dirs : List Dir) × AreSides (points_of job contact) dirs }
+    ensures some { (job : Job) (contact : Contact) → IsContact job contact
+        → (dirs : List Dir) × AreSides (points_of job contact) dirs }
     ensures three { (job : Job) (contact : Contact) (n : ℕ) → HasSides job contact n → 3 ≤ n }
     ensures few { (job : Job) (contact : Contact) (n : ℕ) → HasSides job contact n → n ≤ 8_008_036 }
 {}
@@ -35,14 +36,17 @@ pub fn a_contact_collides_where_its_gap_is_inner()
 /// It is enough to look at contacts that cover the others of the same two objects in the same order: where none of these collides at two
 /// places, the objects don't.
 pub fn covering_contacts_are_enough()
-    ensures { (job : Job) (kept : List Contact) → AreEnough job kept → (p r : Point) → IsPoint p → IsPoint r → (i j : ℕ) → i ≢ j
-        → ((k : Contact) → In k kept → k.i ≡ i → k.j ≡ j → ContactCollides job k p r → ⊥) → Collides (scene_of_job job) i p j r → ⊥ }
+    ensures { (job : Job) (kept : List Contact) → AreEnough job kept → (p r : Point) → IsPoint p
+        → IsPoint r → (i j : ℕ) → i ≢ j
+        → ((k : Contact) → In k kept → k.i ≡ i → k.j ≡ j → ContactCollides job k p r → ⊥)
+        → Collides (scene_of_job job) i p j r → ⊥ }
 {}
 
 /// A contact doesn't collide at a point of a path of the job that has one of its sides: so none is opened twice.
 pub fn an_opened_contact_is_clear()
-    ensures { (job : Job) (e : ℕ) (path : List Choice) (contact : Contact) (dir : Dir) (at : Values) → IsPath job path → IsOn job e path at
-        → Contains path (Choices.Side contact dir) → ContactCollidesAt job e at contact → ⊥ }
+    ensures { (job : Job) (e : ℕ) (path : List Choice) (contact : Contact) (dir : Dir) (at : Values)
+        → IsPath job path → IsOn job e path at → Contains path (Choices.Side contact dir)
+        → ContactCollidesAt job e at contact → ⊥ }
 {}
 
 /// A job has a greatest number of sides of a contact, and so a number of nodes that is Full.
