@@ -3,7 +3,7 @@
 #![tactic(auto)]
 
 ghost use Rattle.std.specs.Prelude.{◌<◌, ◌^◌, unsigned_abs, IfOk, All};
-ghost use Rattle.convex_outline.specs.Corners.{IsNarrow};
+ghost use Rattle.outline_laws.specs.Corners.{IsNarrow};
 
 use convex_outline::hull;
 use seq_model::Spot;

@@ -6,11 +6,11 @@ use Rattle.integer_laws.specs.Laws.Members.{All-in, All-from_in, Contains-from_i
 use Rattle.seq_model.specs.declared.printer.Spot.{Spot}
 use Rattle.seq_model.specs.Points.{Point, at_spot}
 use Rattle.seq_model.specs.Outlines.{Inner, Within}
-use Rattle.convex_outline.specs.Corners.{IsNarrow}
-use Rattle.convex_outline.specs.Chains.{IsRising, SameMembers, both_chains}
-use Rattle.convex_outline.specs.Hulls.{Hull}
-use Rattle.convex_outline.specs.Laws.Keeping.{keeps_as, short_hull}
-use Rattle.convex_outline.specs.Laws.EveryList.{Wide, rising_hull}
+use Rattle.outline_laws.specs.Corners.{IsNarrow}
+use Rattle.outline_laws.specs.Chains.{IsRising, SameMembers, both_chains}
+use Rattle.outline_laws.specs.Hulls.{Hull}
+use Rattle.outline_laws.specs.Laws.Keeping.{keeps_as, short_hull}
+use Rattle.outline_laws.specs.Laws.EveryList.{Wide, rising_hull}
 
 low_end : (y : ℤ) → unsigned_abs y < 2097152 → (neg_ℤ (pos 2097151) ≤ℤ y) × (y ≤ℤ pos 2097151)
 low_end (pos n) h = (omega (arith, ints), omega (arith, ints))

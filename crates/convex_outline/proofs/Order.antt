@@ -13,8 +13,8 @@ use Rattle.seq_model.specs.declared.printer.Spot.{Spot}
 use Rattle.integer_laws.specs.Members.{In}
 use Rattle.integer_laws.specs.Laws.Members.{In-from_contains, Contains-from_in}
 use Rattle.model_laws.specs.Laws.Turning.{before_from_cases}
-use Rattle.convex_outline.specs.Corners.{IsBefore}
-use Rattle.convex_outline.specs.Chains.{RisesFrom, IsRising, SameMembers}
+use Rattle.outline_laws.specs.Corners.{IsBefore}
+use Rattle.outline_laws.specs.Chains.{RisesFrom, IsRising, SameMembers}
 
 abbrev pub spot_cmp : Spot → Spot → Ordering
 spot_cmp a b = ordering_then (int_cmp a.x b.x) (int_cmp a.y b.y)

@@ -4,8 +4,8 @@ use Rattle.std.proofs.lemmas.Int.{ints}
 use Rattle.std.proofs.lemmas.List.{take_more, reverse-append, get_or-take, length-take-le, reverse-reverse}
 use Rattle.std.specs.Prelude.{int_lt, reverse}
 use Rattle.seq_model.specs.declared.printer.Spot.{Spot}
-use Rattle.convex_outline.specs.Corners.{turn}
-use Rattle.convex_outline.specs.Chains.{fallen, without_first}
+use Rattle.outline_laws.specs.Corners.{turn}
+use Rattle.outline_laws.specs.Chains.{fallen, without_first}
 
 last_read : (xs : List Spot) (k : ℕ) (d : Spot) → length xs ≡ k + 1 → reverse xs ≡ get_or xs k d ∷ reverse (take k xs)
 last_read xs k d h =

@@ -1,22 +1,28 @@
-//! Convex outlines of lists of lattice points.
+//! Convex outlines of lists of lattice points: their corners, what is inner to them, and their sides.
 //!
 //! `hull` gives the corners of the convex hull of a list: members of it, counterclockwise from the least, of which any three
 //! turn left. Its main clause says that nothing is lost: a point is a mean of all corners with positive weights exactly where
 //! it is one of all members of the list. A list of no point, of one point or of points on one line is no case of its own.
+//! `is_inner` says exactly which points these are, and `sides` gives exactly the sides, by angle.
 //!
-//! Spots of meshes come in, and what collides is then decided by corners alone. `specs/Corners.antt` has the words of the
-//! contracts, and the other modules of `specs/` the geometry, from weights and turns to the polygon of any list.
+//! Spots of meshes come in, and what collides is then decided by corners alone. The words of the contracts and the geometry are
+//! those of `outline_laws`, and the edges by angle those of `outline_edges`.
 #![tactic(auto)]
 
 ghost use Rattle.std.specs.Prelude.{◌≡◌, List, [], reverse, IfOk, All, Contains, ◌<◌, ◌≤◌, length, ◌^◌, ◌-ℤ◌, unsigned_abs, ◌↔◌};
 ghost use Rattle.seq_model.specs.declared.printer.Spot.{Spot};
 ghost use Rattle.seq_model.specs.Points.{Point, at_spot};
 ghost use Rattle.seq_model.specs.Outlines.{Inner, Within};
-ghost use Rattle.convex_outline.specs.Corners.{turn, AreCorners, AreEnds, HasArea, IsNarrow, NoThreeOnALine};
-ghost use Rattle.convex_outline.specs.Hulls.{HullOf};
-ghost use Rattle.convex_outline.specs.Chains.{fallen, grown, both_chains, IsRising, SameMembers};
+ghost use Rattle.outline_laws.specs.Corners.{turn, AreCorners, AreEnds, HasArea, IsNarrow, NoThreeOnALine};
+ghost use Rattle.outline_laws.specs.Hulls.{HullOf};
+ghost use Rattle.outline_laws.specs.Chains.{fallen, grown, both_chains, IsRising, SameMembers};
 
+mod inner;
+mod outward;
+
+pub use inner::is_inner;
 use integer_laws::{difference, wide_product};
+pub use outward::sides;
 use seq_model::Spot;
 use seq_num::NoMemory;
 use std::alloc::{AllocError, Global};
@@ -113,22 +119,6 @@ pub fn hull(alloc: Global, spots: &[Spot]) -> Result<Vec<Spot>, NoMemory>
     }
     Ok(corners_of(alloc, sorted)?)
 }
-
-/// Each list of spots, however far they lie, has corners of this kind: members, with every member within them and the same inner
-/// points. It is what a polygon of differences stands on, whose spots no list in memory holds.
-pub fn every_list_has_corners()
-    ensures { (spots : List Spot) → HullOf spots }
-{}
-
-/// A list that has area has three corners or more: its corners are a polygon.
-pub fn a_list_with_area_has_a_polygon()
-    ensures { (spots : List Spot) (of : HullOf spots) → HasArea spots → 3 ≤ length of.corners }
-{}
-
-/// Three different corners never lie on one line, wherever they stand in the list.
-pub fn no_three_corners_on_a_line()
-    ensures { (corners : List Spot) → AreCorners corners → NoThreeOnALine corners }
-{}
 
 #[cfg(test)]
 mod tests;

@@ -1,5 +1,5 @@
 ghost use Rattle.std.specs.Prelude.{IfOk, All};
-ghost use Rattle.convex_outline.specs.Corners.{IsNarrow};
+ghost use Rattle.outline_laws.specs.Corners.{IsNarrow};
 
 use super::*;
 use std::test::Fail;

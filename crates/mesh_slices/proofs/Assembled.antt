@@ -17,7 +17,7 @@ use Rattle.seq_model.specs.Scenes.{Between, SomeSpot, Spans}
 use Rattle.seq_model.specs.Soundness.{IsSoundZone, AreSoundZones, AreExtremes, corners_of}
 use Rattle.integer_laws.specs.Extremes.{least, greatest}
 use Rattle.seq_model.specs.Points.{at_spot}
-use Rattle.convex_outline.specs.Laws.Means.{within_at_most}
+use Rattle.outline_laws.specs.Laws.Means.{within_at_most}
 use Rattle.mesh_slices.specs.Objects.{spots_in, IsOutlineOf, HoldsBand, LiesInOneZone, AreZonesOf, IsObjectOf}
 use Rattle.mesh_slices.specs.Runs.{IsRunOf, Holds, AreRunsOf}
 use Rattle.mesh_slices.proofs.Grown.{no_corners}

@@ -12,7 +12,7 @@ use Rattle.seq_model.specs.declared.job.Zone.{Zone}
 use Rattle.seq_model.specs.declared.printer.Spot.{Spot}
 use Rattle.seq_model.specs.Outlines.{Within}
 use Rattle.seq_model.specs.Points.{at_spot}
-use Rattle.convex_outline.specs.Laws.Within.{no_mean}
+use Rattle.outline_laws.specs.Laws.Within.{no_mean}
 use Rattle.mesh_slices.specs.Objects.{IsOutlineOf, HoldsBand}
 use Rattle.mesh_slices.specs.Runs.{IsRunOf, Holds, AreRunsOf}
 

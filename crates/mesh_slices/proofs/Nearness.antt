@@ -11,7 +11,7 @@ use Rattle.seq_model.specs.Bands.{facet_corners}
 use Rattle.seq_model.specs.Bounds.{IsNear, IsNearFacet, IsNearSpot}
 use Rattle.seq_model.specs.Outlines.{four_spots, spots}
 use Rattle.seq_model.specs.Scenes.{Between}
-use Rattle.convex_outline.specs.Corners as Corners
+use Rattle.outline_laws.specs.Corners as Corners
 use Rattle.mesh_slices.proofs.Members.{all_flat}
 use Rattle.mesh_slices.proofs.Holding.{Around, AroundFacet, AroundPoint, spot_below, spot_above, of_facet, of_four}
 

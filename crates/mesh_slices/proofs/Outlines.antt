@@ -11,7 +11,7 @@ use Rattle.seq_model.specs.Points.{Point, at_spot}
 use Rattle.seq_model.specs.declared.mesh.Facet.{Facet}
 use Rattle.seq_model.specs.Bands.{facet_corners}
 use Rattle.seq_model.specs.Outlines.{below, above, four_spots, spots, Within}
-use Rattle.convex_outline.specs.Corners.{AreCorners, IsNarrow}
+use Rattle.outline_laws.specs.Corners.{AreCorners, IsNarrow}
 use Rattle.mesh_slices.specs.Folding.{StandsFor}
 use Rattle.mesh_slices.specs.Laws.Folding.{stands_itself, stands_trans, stands_joined, inner_stands, inner_back}
 use Rattle.mesh_slices.specs.Objects.{IsOutlineOf}

@@ -8,8 +8,8 @@ use Rattle.integer_laws.specs.Laws.Quotients.{floor_le_ceil}
 use Rattle.seq_model.specs.declared.printer.Spot.{Spot}
 use Rattle.seq_model.specs.Outlines.{below, above, spots}
 use Rattle.seq_model.specs.Points.{Point}
-use Rattle.convex_outline.specs.Laws.Area.{three_of_area}
-use Rattle.convex_outline.specs.Corners.{HasArea}
+use Rattle.outline_laws.specs.Laws.Area.{three_of_area}
+use Rattle.outline_laws.specs.Corners.{HasArea}
 use Rattle.mesh_slices.specs.Objects.{IsOutlineOf}
 use Rattle.mesh_slices.specs.Laws.Unique.{hull_of_outline}
 

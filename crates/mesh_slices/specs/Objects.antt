@@ -21,7 +21,7 @@ use Rattle.seq_model.specs.Outlines.{spots, Inner, Within}
 use Rattle.seq_model.specs.Points.{Point, at_spot}
 use Rattle.seq_model.specs.Scenes.{Spans}
 use Rattle.seq_model.specs.Soundness.{IsSoundObject}
-use Rattle.convex_outline.specs.Corners.{AreCorners}
+use Rattle.outline_laws.specs.Corners.{AreCorners}
 use Rattle.mesh_slices.specs.declared.slice.Slice.{Slice}
 use Rattle.mesh_slices.specs.declared.slice.Slice.TheVariants.{Flat, TooTall, NoMemory}
 

@@ -3,7 +3,7 @@ ghost use Rattle.std.specs.List.{flat_map};
 ghost use Rattle.seq_model.specs.Bands.{facet_corners};
 ghost use Rattle.seq_model.specs.Bounds.{IsNearFacet};
 ghost use Rattle.seq_model.specs.Outlines.{four_spots, spots};
-ghost use Rattle.convex_outline.specs.Corners.{IsNarrow};
+ghost use Rattle.outline_laws.specs.Corners.{IsNarrow};
 ghost use Rattle.mesh_slices.specs.CornerPoints.{as_point};
 ghost use Rattle.mesh_slices.specs.Folding.{StandsFor};
 ghost use Rattle.mesh_slices.specs.Objects.{IsOutlineOf};

@@ -9,7 +9,7 @@ use Rattle.integer_laws.specs.Weights.{total}
 use Rattle.model_laws.specs.Turning.{LeftAbout}
 use Rattle.model_laws.specs.Laws.Turning.{least_by_list, left_by_list, corners_by_list}
 use Rattle.seq_model.specs.Points.{at_spot, Point}
-use Rattle.convex_outline.specs.Corners.{IsNarrow}
+use Rattle.outline_laws.specs.Corners.{IsNarrow}
 use Rattle.seq_model.specs.Bounds.{IsNearSpot}
 use Rattle.seq_model.specs.Corners.{turn, IsBefore, AreCorners}
 use Rattle.seq_model.specs.Outlines.{Inner, Within}

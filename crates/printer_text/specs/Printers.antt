@@ -14,7 +14,7 @@
 --   PrinterOf bytes p       the bytes describe the printer p, which keeps the hulls of its parts
 --   IsRefusedPrinter bytes e    the bytes are refused for this cause
 use Rattle.std.specs.Prelude.{◌≡◌, ◌↔◌, ◌⊎◌, ℕ, ◌+◌, Bool, List, [], ◌∷◌, ◌++◌, All, Contains, Option, Some, None, Result, Ok, Err, IsUtf8, option_map}
-use Rattle.convex_outline.specs.Corners.{AreCorners}
+use Rattle.outline_laws.specs.Corners.{AreCorners}
 use Rattle.seq_model.specs.Points.{at_spot, Point}
 use Rattle.printer_envelopes.specs.Bands.{first_band, last_band}
 use Rattle.printer_envelopes.specs.Bars.{bar}

@@ -1,5 +1,5 @@
 use Rattle.std.proofs.Common.{All}
-use Rattle.convex_outline.specs.Corners.{IsNarrow}
+use Rattle.outline_laws.specs.Corners.{IsNarrow}
 use Rattle.bench_hull.proofs.scattered.Given as goal
 
 abbrev pub invariant-loop : goal.invariant-loop

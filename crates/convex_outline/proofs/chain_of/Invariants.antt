@@ -1,7 +1,7 @@
 use Rattle.std.proofs.Common.{◌≡◌, All, drop, []}
 use Rattle.std.specs.Prelude.{reverse}
-use Rattle.convex_outline.specs.Corners.{IsNarrow}
-use Rattle.convex_outline.specs.Chains.{grown}
+use Rattle.outline_laws.specs.Corners.{IsNarrow}
+use Rattle.outline_laws.specs.Chains.{grown}
 use Rattle.convex_outline.proofs.chain_of.Given as goal
 
 abbrev pub invariant-loop-spot : goal.invariant-loop-spot

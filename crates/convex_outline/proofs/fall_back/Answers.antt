@@ -2,7 +2,7 @@ use Rattle.std.proofs.Common.{◌-◌, arith, ◌∙◌, pos, ◌≤ℤ◌, ◌<
 use Rattle.std.specs.Prelude.{vec_len}
 use Rattle.std.proofs.lemmas.List.Elements.{All-pop}
 use Rattle.std.proofs.lemmas.Int.{ints}
-use Rattle.convex_outline.specs.Corners.{turn, IsNarrow}
+use Rattle.outline_laws.specs.Corners.{turn, IsNarrow}
 use Rattle.convex_outline.proofs.Reading.{falls, stays}
 use Rattle.convex_outline.proofs.fall_back.Goals as goal
 

@@ -1,7 +1,7 @@
 use Rattle.std.proofs.Common.{◌≡◌, length, All}
 use Rattle.std.specs.Prelude.{reverse}
-use Rattle.convex_outline.specs.Corners.{IsNarrow}
-use Rattle.convex_outline.specs.Chains.{fallen}
+use Rattle.outline_laws.specs.Corners.{IsNarrow}
+use Rattle.outline_laws.specs.Chains.{fallen}
 use Rattle.convex_outline.proofs.fall_back.Given as goal
 
 abbrev pub invariant-loop-chain : goal.invariant-loop-chain

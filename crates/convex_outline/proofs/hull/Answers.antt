@@ -1,7 +1,7 @@
 use Rattle.std.proofs.Common.{◌<◌, ◌≤◌, length, sym, subst, arith}
-use Rattle.convex_outline.specs.Laws.Area.{three_of_area}
-use Rattle.convex_outline.specs.Hulls.{Hull}
-use Rattle.convex_outline.specs.Laws.Within.{ends_of_line}
+use Rattle.outline_laws.specs.Laws.Area.{three_of_area}
+use Rattle.outline_laws.specs.Hulls.{Hull}
+use Rattle.outline_laws.specs.Laws.Within.{ends_of_line}
 use Rattle.convex_outline.proofs.Nearness.{near_hull, alone_hull, members_of_hull, within_hull, inner_hull}
 use Rattle.convex_outline.proofs.hull.Goals as goal
 

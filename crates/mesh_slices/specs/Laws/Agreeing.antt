@@ -24,7 +24,7 @@ use Rattle.seq_model.specs.Outlines.{Within}
 use Rattle.seq_model.specs.Plates.{region_of}
 use Rattle.seq_model.specs.Points.{Point, at_spot}
 use Rattle.seq_model.specs.Scenes.{Scene, LiesIn, Overlap, Collides, Meets, Valid, Least}
-use Rattle.convex_outline.specs.Laws.Means.{within_at_most}
+use Rattle.outline_laws.specs.Laws.Means.{within_at_most}
 use Rattle.mesh_slices.specs.Agreement.{SameOutline, SamePart, Agree}
 
 -- ---- outlines

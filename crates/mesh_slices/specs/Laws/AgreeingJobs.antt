@@ -26,7 +26,7 @@ use Rattle.seq_model.specs.Jobs.{scene_of_job, holds_band, corners_or_none, no_o
 use Rattle.seq_model.specs.Outlines.{Within}
 use Rattle.seq_model.specs.Scenes.{Valid, Least, scene_of_files, description_of, facets_of}
 use Rattle.seq_model.specs.Points.{at_spot}
-use Rattle.convex_outline.specs.Laws.Means.{member_within}
+use Rattle.outline_laws.specs.Laws.Means.{member_within}
 use Rattle.mesh_slices.specs.Agreement.{SameOutline, SamePart, Agree, HasZonesOf, IsMadeFrom}
 use Rattle.mesh_slices.specs.Laws.Agreeing.{same_plans, same_least}
 use Rattle.mesh_slices.specs.Objects.{IsOutlineOf, HoldsBand, AreZonesOf, IsObjectOf, spots_in}

@@ -17,7 +17,7 @@ use Rattle.integer_laws.specs.Laws.Weights.{weigh_joined, weigh-plus, weigh-scal
 use Rattle.seq_model.specs.declared.printer.Spot.{Spot}
 use Rattle.seq_model.specs.Points.{Point, at_spot}
 use Rattle.seq_model.specs.Outlines.{IsMean, Inner, Within}
-use Rattle.convex_outline.specs.Laws.Means.{within_more, member_within, same_members, inner_of_corners, zeros, weights_zeros, weigh_zeros}
+use Rattle.outline_laws.specs.Laws.Means.{within_more, member_within, same_members, inner_of_corners, zeros, weights_zeros, weigh_zeros}
 use Rattle.mesh_slices.specs.Folding.{StandsFor}
 
 -- ---- the weight of a spot goes to those that it is within

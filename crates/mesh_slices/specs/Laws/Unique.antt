@@ -13,14 +13,14 @@ use Rattle.integer_laws.specs.Laws.Ring.{expand}
 use Rattle.seq_model.specs.declared.printer.Spot.{Spot}
 use Rattle.seq_model.specs.Outlines.{Within}
 use Rattle.model_laws.specs.Laws.Turning.{left_by_list, by_the_list}
-use Rattle.convex_outline.specs.Laws.Area.{three_of_area}
-use Rattle.convex_outline.specs.Corners.{turn, IsBefore, IsBetween, AreEnds, StartsLeast, LeftAbout, TurnsLeft, HasArea}
+use Rattle.outline_laws.specs.Laws.Area.{three_of_area}
+use Rattle.outline_laws.specs.Corners.{turn, IsBefore, IsBetween, AreEnds, StartsLeast, LeftAbout, TurnsLeft, HasArea}
 use Rattle.seq_model.specs.Points.{at_spot}
-use Rattle.convex_outline.specs.Hulls.{Hull}
-use Rattle.convex_outline.specs.Laws.Within.{polygon_turns, polygon_sees, seen_within, area_of_three, ends_of_line}
-use Rattle.convex_outline.specs.Laws.Means.{within_at_most}
-use Rattle.convex_outline.specs.Laws.Polygons.{last_of, Steps, TurnsAlong, Seen}
-use Rattle.convex_outline.specs.Laws.Vectors.{turn_start, turn_end, turn_on, turn_from}
+use Rattle.outline_laws.specs.Hulls.{Hull}
+use Rattle.outline_laws.specs.Laws.Within.{polygon_turns, polygon_sees, seen_within, area_of_three, ends_of_line}
+use Rattle.outline_laws.specs.Laws.Means.{within_at_most}
+use Rattle.outline_laws.specs.Laws.Polygons.{last_of, Steps, TurnsAlong, Seen}
+use Rattle.outline_laws.specs.Laws.Vectors.{turn_start, turn_end, turn_on, turn_from}
 use Rattle.mesh_slices.specs.Objects.{IsOutlineOf}
 
 -- ---- on one line

@@ -1,5 +1,5 @@
 use Rattle.std.proofs.Common.{All}
-use Rattle.convex_outline.specs.Corners.{IsNarrow}
+use Rattle.outline_laws.specs.Corners.{IsNarrow}
 use Rattle.convex_outline.proofs.tests.spots.Given as goal
 
 abbrev pub invariant-loop-pair : goal.invariant-loop-pair

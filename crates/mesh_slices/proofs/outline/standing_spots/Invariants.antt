@@ -1,5 +1,5 @@
 use Rattle.std.proofs.Common.{◌++◌, All, drop}
-use Rattle.convex_outline.specs.Corners.{IsNarrow}
+use Rattle.outline_laws.specs.Corners.{IsNarrow}
 use Rattle.mesh_slices.specs.Folding.{StandsFor}
 use Rattle.mesh_slices.proofs.Outlines.{left}
 use Rattle.mesh_slices.proofs.outline.standing_spots.Given as goal

@@ -1,5 +1,5 @@
 use Rattle.std.proofs.Common.{All, sym, subst}
-use Rattle.convex_outline.specs.Corners.{IsNarrow}
+use Rattle.outline_laws.specs.Corners.{IsNarrow}
 use Rattle.printer_text.proofs.HullLaws.{near_enough, kept_of, sound_part}
 use Rattle.printer_text.proofs.printer.kept_part.Goals as goal
 

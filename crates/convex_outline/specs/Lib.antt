@@ -1,4 +1,0 @@
-pub mod Chains
-pub mod Corners
-pub mod Hulls
-pub mod Laws

@@ -1,0 +1,27 @@
+-- Lemmas over the definitions, for proofs to cite: nothing here has to be believed.
+pub mod Ahead
+pub mod Angles
+pub mod Area
+pub mod Around
+pub mod BothChains
+pub mod ChainLaws
+pub mod Clear
+pub mod Closing
+pub mod Differences
+pub mod Edges
+pub mod EveryList
+pub mod Fan
+pub mod InOrder
+pub mod Inside
+pub mod Keeping
+pub mod Left
+pub mod Loops
+pub mod Means
+pub mod Overlaps
+pub mod Polygons
+pub mod Sides
+pub mod Spreading
+pub mod Turning
+pub mod Vectors
+pub mod Wachspress
+pub mod Within

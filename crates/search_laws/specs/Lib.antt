@@ -1,0 +1,4 @@
+pub mod Covering
+pub mod Searches
+pub mod Sizes
+pub mod Laws
