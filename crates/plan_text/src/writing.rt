@@ -1,5 +1,5 @@
-ghost use Rattle.std.specs.Prelude.{◌≡◌, ◌<◌, ◌^◌, ◌++◌, IfOk, OnOk, unsigned_abs, All};
-ghost use Rattle.plan_text.specs.PlanText.{place_text, places_text, head_text, body_text, plan_text, IsPlace, IsPlanFile};
+ghost use Rattle.std.specs.Prelude.{◌≡◌, ◌++◌, IfOk, OnOk};
+ghost use Rattle.plan_text.specs.PlanText.{place_text, places_text, head_text, body_text, plan_text, IsPlanFile};
 
 use crate::PlanFile;
 use seq_model::{Place, Plan};
@@ -8,7 +8,6 @@ use std::alloc::{AllocError, Global};
 use text_lines::{put_line, put_number};
 
 fn put_place(to: &mut Vec<u8>, place: &Place) -> Result<(), AllocError>
-    requires { IsPlace place.now }
     ensures { OnOk result (to.new.items ≡ to.old.items ++ place_text place.now) }
 {
     put_number(to, b"place ", i128::from(place.object))?;
@@ -17,7 +16,6 @@ fn put_place(to: &mut Vec<u8>, place: &Place) -> Result<(), AllocError>
 }
 
 fn put_places(to: &mut Vec<u8>, places: &[Place]) -> Result<(), AllocError>
-    requires { All IsPlace places.now }
     ensures { OnOk result (to.new.items ≡ to.old.items ++ places_text places.now) }
 {
     for place in places {
@@ -27,8 +25,6 @@ fn put_places(to: &mut Vec<u8>, places: &[Place]) -> Result<(), AllocError>
 }
 
 fn put_body(to: &mut Vec<u8>, extent: u32, plan: &Plan) -> Result<(), AllocError>
-    requires scale { unsigned_abs plan.now.scale < 2 ^ 100 }
-    requires places { All IsPlace plan.now.places }
     ensures { OnOk result (to.new.items ≡ to.old.items ++ body_text extent plan.now) }
 {
     put_line(to, b"extent ", i128::from(extent))?;
