@@ -17,7 +17,7 @@
 --   IsPlanFile f         the grammar spells f
 --   begins_place bytes   whether the bytes begin with `place `
 --   IsPlanOf bytes f k   the bytes before the place k are the text of f, and there its lines end
-use Rattle.std.specs.Prelude.{◌≡◌, ℕ, ℤ, pos, ◌<◌, ◌≤◌, ◌^◌, ◌≤ℤ◌, ◌<ℤ◌, unsigned_abs, List, [], ◌∷◌, ◌++◌, length, take, drop, All, Bool, true, false, nat_lt, if◌then◌else◌, is_some, codes}
+use Rattle.std.specs.Prelude.{◌≡◌, ℕ, pos, ◌<◌, ◌≤◌, ◌^◌, ◌≤ℤ◌, ◌<ℤ◌, unsigned_abs, List, [], ◌∷◌, ◌++◌, length, take, drop, All, Bool, true, false, nat_lt, if◌then◌else◌, is_some, codes}
 use Rattle.std.specs.Int.{◌∣◌}
 use Rattle.seq_num.specs.Spelling.{spelling}
 use Rattle.text_lines.specs.Reading.{literal_at}

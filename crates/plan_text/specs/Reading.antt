@@ -8,7 +8,7 @@
 --   file_at bytes                 == the file, up to the end of the plan's own lines
 --   ended file rest               == nothing to refuse, where the rest may stand behind the file's lines
 --   plan_answer bytes             == the answer: the file and the place where its lines end, or the refusal
-use Rattle.std.specs.Prelude.{ℕ, pos, ◌+◌, ◌-◌, zero, suc, unsigned_abs, ◌==◌, List, [], ◌∷◌, ◌++◌, length, Bool, ◌||◌, if◌then◌else◌, Result, Ok, Err, codes}
+use Rattle.std.specs.Prelude.{ℕ, pos, ◌+◌, ◌-◌, zero, suc, unsigned_abs, ◌==◌, List, [], ◌∷◌, ◌++◌, length, ◌||◌, if◌then◌else◌, Result, Ok, Err, codes}
 use Rattle.std.specs.Option.{ok_or}
 use Rattle.integer_laws.specs.Laws.Divisors.{gcd_is}
 use Rattle.text_lines.specs.Results.{◌>>=◌}
