@@ -1,4 +1,3 @@
 pub mod PlanText
 pub mod Lines
 pub mod Reading
-pub mod Laws

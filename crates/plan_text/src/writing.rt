@@ -1,33 +1,13 @@
-ghost use Rattle.std.specs.Prelude.{◌≡◌, ◌<◌, ◌^◌, ◌++◌, IfOk, OnOk, pos, unsigned_abs, take, All};
-ghost use Rattle.seq_num.specs.Spelling.{spelling};
-ghost use Rattle.plan_text.specs.PlanText.{number_line, place_text, places_text, head_text, body_text, plan_text, IsPlace, IsPlanFile};
+ghost use Rattle.std.specs.Prelude.{◌≡◌, ◌++◌, IfOk, OnOk};
+ghost use Rattle.plan_text.specs.PlanText.{place_text, places_text, head_text, body_text, plan_text, IsPlanFile};
 
 use crate::PlanFile;
 use seq_model::{Place, Plan};
-use seq_num::{NoMemory, write_int};
+use seq_num::NoMemory;
 use std::alloc::{AllocError, Global};
-
-// Appends a text and a number.
-fn put_number(to: &mut Vec<u8>, text: &[u8], n: i128) -> Result<(), AllocError>
-    requires { unsigned_abs n < 2 ^ 100 }
-    ensures { OnOk result (to.new.items ≡ to.old.items ++ (text.now ++ spelling n)) }
-{
-    let mut digits = [0; 40];
-    let len = write_int(n, &mut digits);
-    to.extend_from_slice(text)?;
-    to.extend_from_slice(&digits[..len])
-}
-
-fn put_line(to: &mut Vec<u8>, keyword: &[u8], n: i128) -> Result<(), AllocError>
-    requires { unsigned_abs n < 2 ^ 100 }
-    ensures { OnOk result (to.new.items ≡ to.old.items ++ number_line keyword.now n) }
-{
-    put_number(to, keyword, n)?;
-    to.extend_from_slice(b"\n")
-}
+use text_lines::{put_line, put_number};
 
 fn put_place(to: &mut Vec<u8>, place: &Place) -> Result<(), AllocError>
-    requires { IsPlace place.now }
     ensures { OnOk result (to.new.items ≡ to.old.items ++ place_text place.now) }
 {
     put_number(to, b"place ", i128::from(place.object))?;
@@ -36,7 +16,6 @@ fn put_place(to: &mut Vec<u8>, place: &Place) -> Result<(), AllocError>
 }
 
 fn put_places(to: &mut Vec<u8>, places: &[Place]) -> Result<(), AllocError>
-    requires { All IsPlace places.now }
     ensures { OnOk result (to.new.items ≡ to.old.items ++ places_text places.now) }
 {
     for place in places {
@@ -46,8 +25,6 @@ fn put_places(to: &mut Vec<u8>, places: &[Place]) -> Result<(), AllocError>
 }
 
 fn put_body(to: &mut Vec<u8>, extent: u32, plan: &Plan) -> Result<(), AllocError>
-    requires scale { unsigned_abs plan.now.scale < 2 ^ 100 }
-    requires places { All IsPlace plan.now.places }
     ensures { OnOk result (to.new.items ≡ to.old.items ++ body_text extent plan.now) }
 {
     put_line(to, b"extent ", i128::from(extent))?;

@@ -5,7 +5,6 @@ use itoa::Buffer;
 
 /// Writes the spelling of the number to the front, and gives its length.
 pub fn write_int(n: i128, to: &mut [u8; 40]) -> usize
-    requires { unsigned_abs n < 2 ^ 100 }
     ensures within { result ≤ 40 }
     ensures spelled { take result to.new ≡ spelling n }
     ensures len { result ≡ length (spelling n) }

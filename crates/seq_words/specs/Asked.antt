@@ -12,6 +12,7 @@
 use Rattle.std.specs.Prelude.{◌≡◌, ◌⊎◌, ℕ, ◌≤◌, ◌<◌, ◌^◌, ⊤, List, [], ◌∷◌, Option, Some, None, codes, Result, Ok, Err, if◌then◌else◌, nat_le, length}
 use Rattle.std.specs.Str.{bytes_eq}
 use Rattle.clap.specs.Words.{Row, Text, first_of}
+use Rattle.text_lines.specs.Results.{◌>>=◌}
 use Rattle.seq_words.specs.declared.command.Command.{Command}
 use Rattle.seq_words.specs.declared.command.Words.{Words}
 use Rattle.seq_words.specs.declared.command.Opt.{Opt}
@@ -20,12 +21,6 @@ use Rattle.seq_words.specs.declared.usage.Name.TheVariants as Name
 use Rattle.seq_words.specs.declared.usage.TheConstants.{ARRANGE, CHECK, AUDIT, SLICES, TRIAL}
 use Rattle.seq_words.specs.Numbers.{number_in}
 use Rattle.seq_words.specs.Usages.{simple_command, rows_by, text_of, texts_of, is_given, label_of}
-
-infixl 10 ◌>>=◌
--- the next step, or the first refusal
-abbrev pub ◌>>=◌ : {A B : Type 0} → Result A Words → (A → Result B Words) → Result B Words
-(Ok a) >>= next = next a
-(Err refusal) >>= next = Err refusal
 
 abbrev pub number_or : Opt → Option ℕ → Result ℕ Words
 number_or opt (Some n) = Ok n

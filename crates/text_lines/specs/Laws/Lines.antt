@@ -1,22 +1,15 @@
--- The laws of a line of a keyword and a number, both ways, and of a plan at scale 1.
+-- The laws of a line of a keyword and a number, both ways.
 --
 --   number_line_takes   what `number_line_at` takes is the line of its number, which is in the range
 --   number_line_again   the line of a number in the range is taken as this number
---   unscaled            a plan at scale 1 has no common divisor
-use Rattle.std.proofs.Common.{◌≡◌, ℕ, ◌≤◌, ◌<◌, ◌^◌, ℤ, pos, negsuc, List, ◌++◌, Bool, true, false, cond, ◌||◌, int_lt, Option, Some, None, codes, unsigned_abs, refl, sym, ap, ◌∙◌, arith, append_assoc}
+--   number_line_exact   both ways in one
+--   number_line_one     the line determines its number and the bytes after it
+use Rattle.std.proofs.Common.{◌≡◌, ◌↔◌, ℕ, ◌≤◌, ◌<◌, ◌^◌, ℤ, pos, negsuc, List, ◌++◌, Bool, true, false, cond, ◌||◌, int_lt, Option, Some, None, codes, unsigned_abs, refl, sym, ap, ◌∙◌, arith, append_assoc}
 use Rattle.std.proofs.lemmas.Bool.Decides.{nat_tests}
 use Rattle.seq_num.specs.Spelling.{spelling}
-use Rattle.seq_num.specs.Reading.{literal_at, whole_at}
-use Rattle.seq_num.specs.Laws.Reading.{step_some, literal_takes, literal_again, whole_takes, whole_again}
-use Rattle.std.proofs.Math.Nat.{eq-one_of_dvd-one}
-use Rattle.seq_model.specs.declared.plan.Place.{Place}
-use Rattle.plan_text.specs.PlanText.{number_line, HasNoDivisor}
-use Rattle.plan_text.specs.Lines.{number_line_at}
-
-pub record TakesNumber (keyword : List ℕ) (most : ℕ) (bytes rest : List ℕ) (n : ℕ) : Type 0 where
-  pub spelled : bytes ≡ number_line keyword (pos n) ++ rest
-  pub low : 1 ≤ n
-  pub high : n ≤ most
+use Rattle.text_lines.specs.Reading.{literal_at, whole_at}
+use Rattle.text_lines.specs.Lines.{number_line, number_line_at, IsNumberLineAt}
+use Rattle.text_lines.specs.Laws.Reading.{step_some, literal_takes, literal_again, whole_takes, whole_again}
 
 record Passed (most : ℕ) (z : ℤ) (rest r : List ℕ) (n : ℕ) : Type 0 where
   value : z ≡ pos n
@@ -36,7 +29,7 @@ passed most (negsuc k) rest r n false false a b e = absurd cc
 regroup : (keyword n end rest : List ℕ) → (keyword ++ (n ++ end)) ++ rest ≡ keyword ++ (n ++ (end ++ rest))
 regroup keyword n end rest = simp append_assoc
 
-pub number_line_takes : (keyword : List ℕ) (most : ℕ) (bytes rest : List ℕ) (n : ℕ) → number_line_at keyword most bytes ≡ Some (n, rest) → TakesNumber keyword most bytes rest n
+pub number_line_takes : (keyword : List ℕ) (most : ℕ) (bytes rest : List ℕ) (n : ℕ) → number_line_at keyword most bytes ≡ Some (n, rest) → IsNumberLineAt keyword most bytes n rest
 unfolding number_line_at
 number_line_takes keyword most bytes rest n e =
     let a = step_some (literal_at keyword bytes) _ (n, rest) e in
@@ -56,5 +49,11 @@ number_line_again keyword most n rest low high small =
     let above : int_lt (pos most) (pos n) ≡ false = grind (arith, nat_tests) in
     rw (regroup keyword (spelling (pos n)) (codes "\n") rest) (rw (literal_again, whole_again (pos n) (codes "\n" ++ rest) (omega arith) refl, literal_again, below, above) refl)
 
-pub unscaled : (places : List Place) → HasNoDivisor (record { scale = pos 1; places = places })
-unscaled places = record { one = λ d divides all. eq-one_of_dvd-one divides }
+pub number_line_exact : (keyword : List ℕ) (most : ℕ) (bytes rest : List ℕ) (n : ℕ) → most < 2 ^ 100 → (number_line_at keyword most bytes ≡ Some (n, rest)) ↔ IsNumberLineAt keyword most bytes n rest
+number_line_exact keyword most bytes rest n small = (number_line_takes keyword most bytes rest n, λ l. ap (number_line_at keyword most) l.spelled ∙ number_line_again keyword most n rest l.low l.high small)
+
+pub number_line_one : (keyword : List ℕ) (most : ℕ) (bytes a b : List ℕ) (m n : ℕ) → most < 2 ^ 100 → IsNumberLineAt keyword most bytes m a → IsNumberLineAt keyword most bytes n b → (m ≡ n) × (a ≡ b)
+number_line_one keyword most bytes a b m n small h k =
+    let some : Some (m, a) ≡ Some (n, b) = sym ((number_line_exact keyword most bytes a m small).1 h) ∙ (number_line_exact keyword most bytes b n small).1 k in
+    let p : (m, a) ≡ (n, b) = cc in
+    (ap (λ (q : ℕ × List ℕ). q.0) p, ap (λ (q : ℕ × List ℕ). q.1) p)

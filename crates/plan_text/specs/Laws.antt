@@ -1,2 +1,0 @@
--- Lemmas over the definitions, for proofs to cite: nothing here has to be believed.
-pub mod Reading

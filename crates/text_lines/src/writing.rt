@@ -1,0 +1,24 @@
+ghost use Rattle.std.specs.Prelude.{◌≡◌, ◌++◌, OnOk};
+ghost use Rattle.seq_num.specs.Spelling.{spelling};
+ghost use Rattle.text_lines.specs.Lines.{number_line};
+
+use seq_num::write_int;
+use std::alloc::AllocError;
+
+/// Appends a text and a number. `whole` reads it again where it is below 2^100 in size.
+pub fn put_number(to: &mut Vec<u8>, text: &[u8], n: i128) -> Result<(), AllocError>
+    ensures { OnOk result (to.new.items ≡ to.old.items ++ (text.now ++ spelling n)) }
+{
+    let mut digits = [0; 40];
+    let len = write_int(n, &mut digits);
+    to.extend_from_slice(text)?;
+    to.extend_from_slice(&digits[..len])
+}
+
+/// Appends the line of a keyword and a number.
+pub fn put_line(to: &mut Vec<u8>, keyword: &[u8], n: i128) -> Result<(), AllocError>
+    ensures { OnOk result (to.new.items ≡ to.old.items ++ number_line keyword.now n) }
+{
+    put_number(to, keyword, n)?;
+    to.extend_from_slice(b"\n")
+}
