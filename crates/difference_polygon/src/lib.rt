@@ -10,8 +10,10 @@
 
 mod around;
 mod inside;
+mod rows;
 mod values;
 
 pub use around::{next_side, sides_of};
 pub use inside::strictly_in;
+pub use rows::{side_row, SideRow};
 pub use values::support;
