@@ -6,12 +6,13 @@ use Rattle.std.proofs.lemmas.List.FromFn.{length-range_with_len}
 use Rattle.std.specs.List.{range_with_len}
 use Rattle.integer_laws.specs.Members.{In}
 use Rattle.integer_laws.specs.Laws.Members.{All-from_in, Contains-from_in}
-use Rattle.row_pivots.specs.Contradictions.{mults, weight, contradicts, few_mults, some_mults, rising_mults, taken_of, NoEntry}
-use Rattle.row_pivots.specs.Measure.{steps_left}
-use Rattle.row_pivots.specs.Pivoting.{AreRowsOf}
-use Rattle.row_pivots.specs.Slacks.{slack_table}
-use Rattle.row_pivots.specs.Sorted.{Holds, rising, line_or}
-use Rattle.row_dictionary.specs.Found.{LeavesAt, EntersAt, leaves_at, none_leaves, enters_at, none_enters}
+use Rattle.row_pivots.specs.Ends.{mults, weight, NoEntry}
+use Rattle.row_pivots.specs.Laws.Contradictions.{contradicts, few_mults, some_mults, rising_mults, taken_of}
+use Rattle.row_pivots.specs.Steps.{steps_left}
+use Rattle.row_pivots.specs.Tables.{AreRowsOf}
+use Rattle.row_pivots.specs.Laws.Slacks.{slack_table}
+use Rattle.row_pivots.specs.Tables.{Holds, rising, line_or}
+use Rattle.row_dictionary.specs.Laws.Found.{LeavesAt, EntersAt, leaves_at, none_leaves, enters_at, none_enters}
 use Rattle.row_dictionary.specs.Scans.{start, swapped}
 use Rattle.row_dictionary.specs.Seen.{Seen, IsOf}
 use Rattle.row_dictionary.specs.Turning.{Turned}

@@ -16,16 +16,20 @@ use Rattle.integer_laws.specs.Laws.Members.{In-from_contains, Contains-from_in}
 use Rattle.row_laws.specs.Laws.Independence.{Climbs, from_zero, true_or_false, in_basis, is_in_member}
 use Rattle.row_laws.specs.Laws.OneWalk.{one_walk, last_same}
 use Rattle.row_laws.specs.Laws.Pivots.{below, filter_climbs, free_climbs, to_rises, rising_same, same_result}
-use Rattle.row_pivots.specs.Bland.{not_basic}
-use Rattle.row_pivots.specs.Contradictions.{NoEntry}
-use Rattle.row_pivots.specs.Measure.{Table, IsTable, table_of, next_of, steps_left, place_of, place_is, falls}
-use Rattle.row_pivots.specs.NextTable.{seen_next}
-use Rattle.row_pivots.specs.Pivoting.{range_set}
-use Rattle.row_pivots.specs.Points.{point, point_meets, line_none, climbs_fresh}
-use Rattle.row_pivots.specs.Sorted.{Holds, Held, held, rising, sorted_line, sorted_lines, line_or, line_is, entry_of, rising_members, same_free, free_member, range_climbs}
-use Rattle.row_pivots.specs.Turned.{set_members}
-use Rattle.row_dictionary.specs.Found.{LeavesAt, EntersAt}
-use Rattle.row_dictionary.specs.Placing.{range_on}
+use Rattle.row_pivots.specs.Laws.Bland.{not_basic}
+use Rattle.row_pivots.specs.Ends.{NoEntry}
+use Rattle.row_pivots.specs.Laws.Measure.{place_is, falls}
+use Rattle.row_pivots.specs.Steps.{Table, IsTable, table_of, next_of, steps_left}
+use Rattle.row_pivots.specs.Tables.{place_of}
+use Rattle.row_pivots.specs.Laws.NextTable.{seen_next}
+use Rattle.row_pivots.specs.Laws.Pivoting.{range_set}
+use Rattle.row_pivots.specs.Ends.{point}
+use Rattle.row_pivots.specs.Laws.Points.{point_meets, line_none, climbs_fresh}
+use Rattle.row_pivots.specs.Laws.Sorted.{held, line_is, rising_members, same_free, free_member, range_climbs}
+use Rattle.row_pivots.specs.Tables.{Holds, Held, rising, sorted_line, sorted_lines, line_or, entry_of}
+use Rattle.row_pivots.specs.Laws.Turned.{set_members}
+use Rattle.row_dictionary.specs.Laws.Found.{LeavesAt, EntersAt}
+use Rattle.row_dictionary.specs.Laws.Placing.{range_on}
 use Rattle.row_dictionary.specs.Scans.{swapped}
 use Rattle.row_dictionary.specs.Seen.{Seen, IsOf}
 use Rattle.seq_model.specs.Dictionaries.{free_of, is_in, Form, Has, WideAt}

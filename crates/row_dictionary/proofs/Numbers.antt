@@ -15,7 +15,9 @@ use Rattle.integer_laws.specs.Laws.Members.{All-in, All-from_in, In-append_left,
 use Rattle.integer_laws.specs.Vectors.{combined}
 use Rattle.integer_laws.specs.Laws.Vectors.{get_or-combined, length-combined}
 use Rattle.row_laws.specs.Laws.OneForm.{any_default}
-use Rattle.row_dictionary.specs.Mixing.{Small, mixed, mixed_numbers, mixed_line, quotients, IsCommon}
+use Rattle.row_pivots.specs.Ends.{Small}
+use Rattle.row_pivots.specs.Turns.{quotients}
+use Rattle.row_dictionary.specs.Mixing.{mixed, mixed_numbers, mixed_line, IsCommon}
 use Rattle.row_dictionary.specs.declared.Mix.{Mix}
 
 pub long_numbers : (m : Mix) (zs ys : List ℤ) → length zs ≡ length ys → length (mixed_numbers m zs ys) ≡ length zs

@@ -7,7 +7,8 @@ use Rattle.integer_laws.specs.Laws.Divisors.{exact_quotient}
 use Rattle.integer_laws.specs.Laws.Order.{cancel_lt}
 use Rattle.integer_laws.specs.Laws.Ring.{expand}
 use Rattle.row_laws.specs.Laws.Kernel.{cancel_factor}
-use Rattle.row_pivots.specs.Turned.{IsContent, divides_self}
+use Rattle.row_pivots.specs.Laws.Turned.{divides_self}
+use Rattle.row_pivots.specs.Turns.{IsContent}
 use Rattle.row_dictionary.specs.Tables.{AreCommon}
 use Rattle.row_dictionary.specs.Turns.{IsDivisor}
 

@@ -3,13 +3,16 @@ use Rattle.std.proofs.Common.{◌≡◌, ◌≢◌, ℕ, zero, suc, ◌+◌, ◌
 use Rattle.std.proofs.lemmas.List.{length-map}
 use Rattle.integer_laws.specs.Members.{In}
 use Rattle.row_laws.specs.Laws.Lines.{member}
-use Rattle.row_pivots.specs.Measure.{place_of, place_is}
-use Rattle.row_pivots.specs.Pivoting.{get_or-In}
-use Rattle.row_pivots.specs.Sorted.{Fresh, Holds, rising, rising_members, line_or, line_is, says_long}
-use Rattle.row_pivots.specs.Turned.{quotients, turned}
-use Rattle.row_pivots.specs.WideRows.{wide_row}
+use Rattle.row_pivots.specs.Laws.Measure.{place_is}
+use Rattle.row_pivots.specs.Tables.{place_of}
+use Rattle.row_pivots.specs.Laws.Pivoting.{get_or-In}
+use Rattle.row_pivots.specs.Laws.Sorted.{rising_members, line_is, says_long}
+use Rattle.row_pivots.specs.Tables.{Fresh, Holds, rising, line_or}
+use Rattle.row_pivots.specs.Laws.Turned.{turned}
+use Rattle.row_pivots.specs.Turns.{quotients}
+use Rattle.row_pivots.specs.Laws.WideRows.{wide_row}
 use Rattle.std.proofs.lemmas.List.Elements.{All-cons, All-get_or}
-use Rattle.row_dictionary.specs.Mixing.{Small}
+use Rattle.row_pivots.specs.Ends.{Small}
 use Rattle.row_dictionary.specs.Tables.{IsLine, AreLines}
 use Rattle.row_dictionary.specs.Turns.{Before, whole_den, whole_lines, swapped_basic, swapped_free, Done, Refused}
 use Rattle.row_dictionary.proofs.Lines.{at_map}

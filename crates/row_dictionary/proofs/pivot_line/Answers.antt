@@ -1,7 +1,8 @@
 use Rattle.std.proofs.Common.{rules, ◌≡◌, ◌<◌, length, get_or, ℤ, pos, sym, ap, subst, ◌∙◌, arith, SFits, w64, to_z-of_z, int_div, All}
 use Rattle.std.proofs.lemmas.List.Elements.{All-get_or}
 use Rattle.integer_laws.specs.Laws.InPlace.{get_or-rewritten, rewritten_more, rewritten_all}
-use Rattle.row_dictionary.specs.Mixing.{Small, mixed, mixed_line}
+use Rattle.row_pivots.specs.Ends.{Small}
+use Rattle.row_dictionary.specs.Mixing.{mixed, mixed_line}
 use Rattle.row_dictionary.proofs.Numbers.{quotient_is, long_line}
 use Rattle.row_dictionary.proofs.pivot_line.Goals as goal
 

@@ -2,7 +2,7 @@ use Rattle.std.proofs.Common.{rules, ◌≡◌, List, ℤ, sym, ap, subst, ◌�
 use Rattle.std.proofs.lemmas.List.{length-map}
 use Rattle.std.proofs.lemmas.List.Elements.{All-get_or}
 use Rattle.integer_laws.specs.Laws.InPlace.{get_or-rewritten, rewritten_more, rewritten_all}
-use Rattle.row_dictionary.specs.Mixing.{Small}
+use Rattle.row_pivots.specs.Ends.{Small}
 use Rattle.row_dictionary.specs.Tables.{step_line, IsLine}
 use Rattle.row_dictionary.proofs.Lines.{at_map}
 use Rattle.row_dictionary.proofs.table.pivot_lines.Goals as goal

@@ -1,11 +1,12 @@
 use Rattle.std.proofs.Common.{rules, ◌≡◌, ◌<◌, ◌+◌, ◌∙◌, ap, ap₂, sym, subst, arith, get_or, set, length, List, ℕ, pos, suc}
 use Rattle.integer_laws.specs.Laws.Members.{In-from_contains}
-use Rattle.row_pivots.specs.Measure.{place_of, place_is}
-use Rattle.row_pivots.specs.Sorted.{rising}
+use Rattle.row_pivots.specs.Laws.Measure.{place_is}
+use Rattle.row_pivots.specs.Tables.{place_of}
+use Rattle.row_pivots.specs.Tables.{rising}
 use Rattle.row_dictionary.specs.Scans.{number_at, swapped}
 use Rattle.row_dictionary.specs.Seen.{Seen, HasShape}
 use Rattle.seq_model.specs.Dictionaries.{WideAt}
-use Rattle.row_dictionary.specs.Placing.{entry_line}
+use Rattle.row_dictionary.specs.Laws.Placing.{entry_line}
 use Rattle.row_dictionary.proofs.dictionary.Dictionary.pivot_by.Goals as goal
 
 pub pivot_at-requires-clause-r : goal.pivot_at-requires-clause-r

@@ -1,8 +1,8 @@
 use Rattle.std.proofs.Common.{rules, ◌≡◌, ◌<◌, ◌∙◌, ap, sym, subst, refl, arith, Some, pos, ◌<ℤ◌}
 use Rattle.std.proofs.lemmas.Int.{ints}
 use Rattle.integer_laws.specs.Laws.Members.{Contains-from_in}
-use Rattle.row_pivots.specs.Measure.{place_of}
-use Rattle.row_dictionary.specs.Found.{leaves_at, enters_at}
+use Rattle.row_pivots.specs.Tables.{place_of}
+use Rattle.row_dictionary.specs.Laws.Found.{leaves_at, enters_at}
 use Rattle.row_dictionary.specs.Scans.{least_leaving, least_entering}
 use Rattle.row_dictionary.proofs.dictionary.Dictionary.turn.Goals as goal
 

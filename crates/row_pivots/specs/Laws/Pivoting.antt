@@ -25,21 +25,11 @@ use Rattle.row_laws.specs.Laws.OneForm.{list_same}
 use Rattle.seq_model.specs.Dictionaries.{meaning, one, combination, Says}
 use Rattle.seq_model.specs.Systems.{row_at, no_row}
 use Rattle.seq_model.specs.declared.row.Row.{Row}
-
-abbrev pub AreRowsOf : ℕ → List Row → Type 0
-AreRowsOf vars rows = All (λ row. length row.a ≡ vars) rows
-
-abbrev pub entry_at : List ℤ → ℕ → ℤ
-entry_at line k = get_or line k (pos 0)
-
-abbrev pub pivoted_line : ℤ → List ℤ → ℕ → List ℤ → List ℤ
-pivoted_line d ys k zs = set (combined (entry_at ys k) (entry_at zs k) zs ys) k (d *ℤ entry_at zs k)
+use Rattle.row_pivots.specs.Tables.{AreRowsOf, InRange}
+use Rattle.row_pivots.specs.Turns.{entry_at, line_at, pivoted_line}
 
 abbrev pub entered_line : ℤ → List ℤ → ℕ → List ℤ
 entered_line d ys k = set (scale (neg_ℤ d) ys) k (d *ℤ d)
-
-abbrev pub line_at : List (List ℤ) → ℕ → List ℤ
-line_at lines r = get_or lines r []
 
 abbrev pub pivoted_lines : ℤ → List (List ℤ) → ℕ → ℕ → List (List ℤ)
 pivoted_lines d lines r k = set (map (pivoted_line d (line_at lines r) k) lines) r (entered_line d (line_at lines r) k)
@@ -131,9 +121,6 @@ enters_number d y ys cs k in_y in_c leaves =
 -- ---- lines
 abbrev pub Line : ℕ → List Row → ℤ → List ℕ → ℕ → List ℤ → Type 0
 Line vars rows d free z line = (length line ≡ suc (length free)) × (scale d (meaning vars rows z) ≡ combination line (one vars ∷ map (meaning vars rows) free))
-
-abbrev pub InRange : ℕ → List ℕ → Type 0
-InRange count zs = (z : ℕ) → In z zs → z < count
 
 vectors_long : (vars : ℕ) (rows : List Row) → AreRowsOf vars rows → (free : List ℕ) → InRange (vars + length rows) free → (v : List ℤ) → In v (one vars ∷ map (meaning vars rows) free) → length v ≡ suc vars
 vectors_long vars rows are free small v (inl e) = ap length e ∙ long_one vars

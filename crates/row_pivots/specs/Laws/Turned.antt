@@ -18,25 +18,13 @@ use Rattle.integer_laws.specs.Laws.Ring.{expand}
 use Rattle.integer_laws.specs.Vectors.{dot, scale, zeros}
 use Rattle.integer_laws.specs.Laws.Vectors.{dot-set, dot-zeros}
 use Rattle.row_laws.specs.Laws.Kernel.{cancel_factor}
-use Rattle.row_pivots.specs.Pivoting.{AreRowsOf, InRange, Line, line_from, column, entry_at, line_at, pivoted_line, all_stay, says_set, says_at, says_divided, get_or-In, get_or-map, range_set, In-set, long_columns}
-use Rattle.row_pivots.specs.Sorted.{Fresh, Holds}
+use Rattle.row_pivots.specs.Laws.Pivoting.{Line, line_from, column, all_stay, says_set, says_at, says_divided, get_or-In, get_or-map, range_set, In-set, long_columns}
+use Rattle.row_pivots.specs.Tables.{AreRowsOf, InRange}
+use Rattle.row_pivots.specs.Turns.{entry_at, line_at, pivoted_line}
+use Rattle.row_pivots.specs.Tables.{Fresh, Holds}
 use Rattle.seq_model.specs.Dictionaries.{meaning, one, Says, DividesAll}
 use Rattle.seq_model.specs.declared.row.Row.{Row}
-
-abbrev pub unit_line : ℕ → ℕ → ℤ → List ℤ
-unit_line n k d = set (zeros n) k d
-
-abbrev pub prepared : ℤ → List (List ℤ) → ℕ → ℕ → List (List ℤ)
-prepared d lines r k = set lines r (unit_line (length (line_at lines r)) k d)
-
-abbrev pub turned_lines : ℤ → List (List ℤ) → ℕ → ℕ → List (List ℤ)
-turned_lines d lines r k = map (pivoted_line d (line_at lines r) k) (prepared d lines r k)
-
-abbrev pub quotients : ℤ → List ℤ → List ℤ
-quotients g xs = map (λ x. int_div x g) xs
-
-abbrev pub IsContent : ℤ → ℤ → List (List ℤ) → Type 0
-IsContent g d lines = (k : ℕ) → (k ∣ unsigned_abs g) ↔ DividesAll k d lines
+use Rattle.row_pivots.specs.Turns.{IsContent, prepared, quotients, turned_lines, unit_line}
 
 -- ---- the line of what enters, over the old free variables
 unit_says : (vars : ℕ) (rows : List Row) → AreRowsOf vars rows → (d : ℤ) (free : List ℕ) → InRange (vars + length rows) free → (s : ℕ) → s < length free

@@ -20,17 +20,17 @@ use Rattle.integer_laws.specs.Laws.Vectors.{dot_comm, dot-scale, dot-unit, get_o
 use Rattle.row_laws.specs.Laws.Independence.{variable_is, from_zero, past_the_end, Climbs}
 use Rattle.row_laws.specs.Laws.OneForm.{any_default, list_same}
 use Rattle.row_laws.specs.Laws.Pivots.{below}
-use Rattle.row_pivots.specs.Bland.{not_basic}
-use Rattle.row_pivots.specs.Pivoting.{AreRowsOf, get_or-In, get_or-map}
-use Rattle.row_pivots.specs.Sorted.{line_or, line_is, Fresh}
-use Rattle.row_pivots.specs.Values.{Values, values, has_line, free_or_basic}
+use Rattle.row_pivots.specs.Laws.Bland.{not_basic}
+use Rattle.row_pivots.specs.Laws.Pivoting.{get_or-In, get_or-map}
+use Rattle.row_pivots.specs.Tables.{AreRowsOf}
+use Rattle.row_pivots.specs.Laws.Sorted.{line_is}
+use Rattle.row_pivots.specs.Tables.{line_or, Fresh}
+use Rattle.row_pivots.specs.Laws.Values.{Values, values, has_line, free_or_basic}
 use Rattle.seq_model.specs.Dictionaries.{meaning, one, free_of, Form, Has}
 use Rattle.seq_model.specs.Systems.{row_at, no_row, row_value, MeetsRows}
 use Rattle.seq_model.specs.Walks.{constant, NothingLeaves}
 use Rattle.seq_model.specs.declared.row.Row.{Row}
-
-abbrev pub point : ℕ → List ℕ → List (List ℤ) → List ℤ
-point vars basis lines = map (λ z. constant (line_or z basis lines)) (range_with_len 0 vars)
+use Rattle.row_pivots.specs.Ends.{point}
 
 pub slack_is : (vars : ℕ) (rows : List Row) (r : ℕ) → meaning vars rows (vars + r) ≡ (row_at rows r).c ∷ (row_at rows r).a
 slack_is vars rows r =

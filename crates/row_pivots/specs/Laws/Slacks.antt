@@ -15,15 +15,15 @@ use Rattle.integer_laws.specs.Vectors.{dot, zeros, unit}
 use Rattle.row_laws.specs.Laws.Independence.{variable_is, past_the_end, In-range, Climbs}
 use Rattle.row_laws.specs.Laws.OneForm.{any_default}
 use Rattle.row_laws.specs.Laws.Pivots.{below}
-use Rattle.row_pivots.specs.Pivoting.{AreRowsOf, Line, line_from, column}
-use Rattle.row_pivots.specs.Points.{slack_is, climbs_fresh}
-use Rattle.row_pivots.specs.Sorted.{Fresh, Holds, range_climbs}
+use Rattle.row_pivots.specs.Laws.Pivoting.{Line, line_from, column}
+use Rattle.row_pivots.specs.Tables.{AreRowsOf}
+use Rattle.row_pivots.specs.Laws.Points.{slack_is, climbs_fresh}
+use Rattle.row_pivots.specs.Laws.Sorted.{range_climbs}
+use Rattle.row_pivots.specs.Tables.{Fresh, Holds}
 use Rattle.seq_model.specs.Dictionaries.{meaning, one, Says, DividesAll}
 use Rattle.seq_model.specs.Systems.{row_at, no_row}
 use Rattle.seq_model.specs.declared.row.Row.{Row}
-
-abbrev pub slack_lines : List Row → List (List ℤ)
-slack_lines rows = map (λ (row : Row). row.c ∷ row.a) rows
+use Rattle.row_pivots.specs.Ends.{slack_lines}
 
 zero_at : (n k : ℕ) → get_or (zeros n) k (pos 0) ≡ pos 0
 zero_at zero k = refl

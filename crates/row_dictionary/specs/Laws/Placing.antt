@@ -4,17 +4,18 @@ use Rattle.std.proofs.lemmas.Bool.{cases_lt}
 use Rattle.std.proofs.lemmas.Bool.Decides.{nat_tests}
 use Rattle.std.proofs.lemmas.List.{take_more}
 use Rattle.std.proofs.lemmas.List.Elements.{All-cons}
-use Rattle.row_pivots.specs.Pivoting.{AreRowsOf}
+use Rattle.row_pivots.specs.Tables.{AreRowsOf}
 use Rattle.std.specs.List.{filter, range_with_len}
 use lib.Dec.{T}
 use Rattle.std.specs.Prelude.{nat_eq, nat_lt, cond, if◌then◌else◌}
 use Rattle.integer_laws.specs.Members.{In}
 use Rattle.integer_laws.specs.Laws.Members.{In-map_cases, All-in, All-from_in}
 use Rattle.row_laws.specs.Laws.Independence.{true_or_false, equal_is, is_equal, in_basis, is_in_member}
-use Rattle.row_pivots.specs.Measure.{place_of, place_is}
-use Rattle.row_pivots.specs.Sorted.{line_or, entry_of, rising}
-use Rattle.row_pivots.specs.Slacks.{slack_lines}
-use Rattle.row_dictionary.specs.Mixing.{Small}
+use Rattle.row_pivots.specs.Laws.Measure.{place_is}
+use Rattle.row_pivots.specs.Tables.{place_of}
+use Rattle.row_pivots.specs.Tables.{line_or, entry_of, rising}
+use Rattle.row_pivots.specs.Ends.{slack_lines}
+use Rattle.row_pivots.specs.Ends.{Small}
 use Rattle.row_dictionary.specs.Scans.{number_at, pushed, IsSmallRow}
 use Rattle.row_dictionary.specs.Tables.{AreLines, IsLine}
 use Rattle.seq_model.specs.Dictionaries.{is_in}

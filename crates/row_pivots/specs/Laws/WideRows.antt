@@ -1,6 +1,6 @@
 -- Where the basis of a table is wide.
 --
---   IsSmall x        x is below 2^62 in size
+--   Small x        x is below 2^62 in size
 --   wide_row         the basis is wide at a variable of it just where the denominator and the numbers of its line aren't all small
 use Rattle.std.proofs.Common.{◌≡◌, ℕ, zero, suc, ◌+◌, ◌<◌, ◌≤◌, ◌^◌, List, [], ◌∷◌, length, map, get_or, All, Contains, refl, ap, sym, subst, ◌∙◌, arith, ℤ, pos, ◌⊎◌, inl, inr, Bool, true, false, unsigned_abs, ◌↔◌}
 use Rattle.std.proofs.lemmas.Bool.{cases_lt}
@@ -13,15 +13,14 @@ use Rattle.row_laws.specs.Laws.Independence.{Climbs, from_zero, true_or_false}
 use Rattle.row_laws.specs.Laws.Lines.{has_same, member}
 use Rattle.row_laws.specs.Laws.OneForm.{one_form}
 use Rattle.row_laws.specs.Laws.Pivots.{below, free_climbs}
-use Rattle.row_pivots.specs.Bland.{not_basic}
-use Rattle.row_pivots.specs.Pivoting.{Line}
-use Rattle.row_pivots.specs.Sorted.{Fresh, Holds, Held, held, rising, sorted_line, sorted_lines, line_or, entry_of, entry_is, rising_members, free_member, says_or, has_of}
+use Rattle.row_pivots.specs.Laws.Bland.{not_basic}
+use Rattle.row_pivots.specs.Laws.Pivoting.{Line}
+use Rattle.row_pivots.specs.Laws.Sorted.{held, entry_is, rising_members, free_member, says_or, has_of}
+use Rattle.row_pivots.specs.Tables.{Fresh, Holds, Held, rising, sorted_line, sorted_lines, line_or, entry_of}
 use Rattle.seq_model.specs.Dictionaries.{free_of, Form, Has, WideAt}
 use Rattle.seq_model.specs.Walks.{constant, entries}
 use Rattle.seq_model.specs.declared.row.Row.{Row}
-
-abbrev pub IsSmall : ℤ → Type 0
-IsSmall x = unsigned_abs x < 2 ^ 62
+use Rattle.row_pivots.specs.Ends.{Small}
 
 -- a list whose numbers aren't all small has one that isn't
 pub record Big (xs : List ℤ) : Type 0 where
@@ -29,24 +28,24 @@ pub record Big (xs : List ℤ) : Type 0 where
   pub member : In x xs
   pub big : 2 ^ 62 ≤ unsigned_abs x
 
-all_or_big : (xs : List ℤ) → All IsSmall xs ⊎ Big xs
-all_or_big [] = inl (All-nil IsSmall)
+all_or_big : (xs : List ℤ) → All Small xs ⊎ Big xs
+all_or_big [] = inl (All-nil Small)
 all_or_big (x ∷ xs) = by (cases_lt (unsigned_abs x) (2 ^ 62)) (all_or_big xs)
   where
-    by : (unsigned_abs x < 2 ^ 62) ⊎ (2 ^ 62 ≤ unsigned_abs x) → All IsSmall xs ⊎ Big xs → All IsSmall (x ∷ xs) ⊎ Big (x ∷ xs)
+    by : (unsigned_abs x < 2 ^ 62) ⊎ (2 ^ 62 ≤ unsigned_abs x) → All Small xs ⊎ Big xs → All Small (x ∷ xs) ⊎ Big (x ∷ xs)
     by (inr h) rest = inr (record { x = x; member = inl refl; big = h })
-    by (inl h) (inl all) = inl (All-cons IsSmall x xs h all)
+    by (inl h) (inl all) = inl (All-cons Small x xs h all)
     by (inl h) (inr b) = inr (record { x = b.x; member = inr b.member; big = b.big })
 
-big_of : (xs : List ℤ) → (All IsSmall xs → ⊥) → Big xs
+big_of : (xs : List ℤ) → (All Small xs → ⊥) → Big xs
 big_of xs n = by (all_or_big xs)
   where
-    by : All IsSmall xs ⊎ Big xs → Big xs
+    by : All Small xs ⊎ Big xs → Big xs
     by (inl all) = absurd (n all)
     by (inr b) = b
 
-not_all : (xs : List ℤ) → Big xs → All IsSmall xs → ⊥
-not_all xs b all = let s = All-in IsSmall xs b.x all b.member in let h = b.big in absurd (omega (arith, s, h))
+not_all : (xs : List ℤ) → Big xs → All Small xs → ⊥
+not_all xs b all = let s = All-in Small xs b.x all b.member in let h = b.big in absurd (omega (arith, s, h))
 
 -- the numbers of a line and of the sorted one are the same, but for zeros
 to_sorted : (count : ℕ) (basic free : List ℕ) (line : List ℤ) (x : ℤ) → length line ≡ suc (length free) → Fresh free → ((y : ℕ) → In y free → In y (free_of count basic)) → In x line → In x (sorted_line count basic free line)
@@ -85,7 +84,7 @@ has_map g (y ∷ zs) z (inl e) = inl (e, ap g e)
 has_map g (y ∷ zs) z (inr i) = inr (has_map g zs z i)
 
 pub wide_row : (vars : ℕ) (rows : List Row) (d : ℤ) (basic free : List ℕ) (lines : List (List ℤ)) → Holds vars rows d basic free lines → (z : ℕ) → In z basic
-    → WideAt vars rows (rising (vars + length rows) basic) z ↔ (All IsSmall (d ∷ line_or z basic lines) → ⊥)
+    → WideAt vars rows (rising (vars + length rows) basic) z ↔ (All Small (d ∷ line_or z basic lines) → ⊥)
 wide_row vars rows d basic free lines h z i = (there, back)
   where
     next : List ℕ
@@ -110,7 +109,7 @@ wide_row vars rows d basic free lines h z i = (there, back)
     has = subst (λ ls. Has (rising (vars + length rows) basic) ls z (sorted_line (vars + length rows) basic free (line_or z basic lines))) (sym F.lines_are)
         (has_map (λ y. sorted_line (vars + length rows) basic free (line_or y basic lines)) (rising (vars + length rows) basic) z ((rising_members (vars + length rows) basic h.small_basic z).1 i))
 
-    there : WideAt vars rows (rising (vars + length rows) basic) z → All IsSmall (d ∷ line_or z basic lines) → ⊥
+    there : WideAt vars rows (rising (vars + length rows) basic) z → All Small (d ∷ line_or z basic lines) → ⊥
     there w all = by (In-from_contains (w.form.d ∷ w.line) w.number w.member)
       where
         same : (w.form.d ≡ F.form.d) × (w.form.lines ≡ F.form.lines)
@@ -124,7 +123,7 @@ wide_row vars rows d basic free lines h z i = (there, back)
         by (inl e) = not_all (d ∷ line_or z basic lines) (record { x = w.number; member = inl (e ∙ same.0 ∙ F.d_is); big = w.wide }) all
         by (inr k) = not_all (d ∷ line_or z basic lines) (record { x = w.number; member = inr (from_sorted (vars + length rows) basic free (line_or z basic lines) w.number long w.wide (subst (In w.number) line k)); big = w.wide }) all
 
-    back : (All IsSmall (d ∷ line_or z basic lines) → ⊥) → WideAt vars rows (rising (vars + length rows) basic) z
+    back : (All Small (d ∷ line_or z basic lines) → ⊥) → WideAt vars rows (rising (vars + length rows) basic) z
     back n = by (big_of (d ∷ line_or z basic lines) n)
       where
         by : Big (d ∷ line_or z basic lines) → WideAt vars rows (rising (vars + length rows) basic) z

@@ -8,8 +8,9 @@ use Rattle.row_laws.specs.Computed.{leaving, entering, first_positive, line_of}
 use Rattle.row_laws.specs.Laws.Independence.{from_zero}
 use Rattle.row_laws.specs.Laws.Lines.{line_of_has}
 use Rattle.row_laws.specs.Laws.Pivots.{Left, left, Entered, entered, entering_is, free_climbs, rising_same, same_line}
-use Rattle.row_pivots.specs.Measure.{Table, IsTable, NextStep, table_of, made, made_moves, pivoted, after_leaving, after_entering, next_of, one_table}
-use Rattle.row_pivots.specs.Pivoting.{AreRowsOf}
+use Rattle.row_pivots.specs.Laws.Measure.{NextStep, made, made_moves, one_table}
+use Rattle.row_pivots.specs.Steps.{Table, IsTable, table_of, pivoted, after_leaving, after_entering, next_of}
+use Rattle.row_pivots.specs.Tables.{AreRowsOf}
 use Rattle.seq_model.specs.Dictionaries.{free_of, Form}
 use Rattle.seq_model.specs.Walks.{constant, entries, Leaves, Enters}
 use Rattle.seq_model.specs.declared.row.Row.{Row}

@@ -29,73 +29,21 @@ use Rattle.row_laws.specs.Laws.Independence.{Climbs, from_zero, true_or_false, e
 use Rattle.row_laws.specs.Laws.Lines.{line_of_has, member}
 use Rattle.row_laws.specs.Laws.OneForm.{one_form}
 use Rattle.row_laws.specs.Laws.Pivots.{Left, left, Entered, entered, entering_is, below, free_climbs}
-use Rattle.row_pivots.specs.Bland.{Step, Run, short, not_basic}
-use Rattle.row_pivots.specs.Changes.{Change}
-use Rattle.row_pivots.specs.Pivoting.{AreRowsOf, entry_at, line_at}
-use Rattle.row_pivots.specs.Points.{climbs_fresh}
-use Rattle.row_pivots.specs.Sorted.{Fresh, Holds, Held, held, rising, sorted_lines, rising_members}
-use Rattle.row_pivots.specs.Turned.{turned_lines, quotients, IsContent, turned, set_members, divides_self}
-use Rattle.row_pivots.specs.Values.{free_or_basic}
+use Rattle.row_pivots.specs.Laws.Bland.{Step, Run, short, not_basic}
+use Rattle.row_pivots.specs.Laws.Changes.{Change}
+use Rattle.row_pivots.specs.Tables.{AreRowsOf}
+use Rattle.row_pivots.specs.Turns.{entry_at, line_at}
+use Rattle.row_pivots.specs.Laws.Points.{climbs_fresh}
+use Rattle.row_pivots.specs.Laws.Sorted.{held, rising_members}
+use Rattle.row_pivots.specs.Tables.{Fresh, Holds, Held, rising, sorted_lines}
+use Rattle.row_pivots.specs.Laws.Turned.{turned, set_members, divides_self}
+use Rattle.row_pivots.specs.Turns.{turned_lines, quotients, IsContent}
+use Rattle.row_pivots.specs.Laws.Values.{free_or_basic}
 use Rattle.seq_model.specs.Dictionaries.{free_of, DividesAll, Form, Has}
 use Rattle.seq_model.specs.Walks.{constant, entries, Leaves, Enters}
 use Rattle.seq_model.specs.declared.row.Row.{Row}
-
-pub record Table : Type 0 where
-  pub d : ℤ
-  pub basis : List ℕ
-  pub lines : List (List ℤ)
-
-pub record IsTable (vars : ℕ) (rows : List Row) (t : Table) : Type 0 where
-  pub form : Form vars rows t.basis
-  pub d_is : form.d ≡ t.d
-  pub lines_are : form.lines ≡ t.lines
-
-pub line_content : ℕ → List ℤ → ℕ
-line_content g [] = g
-line_content g (x ∷ xs) = line_content (gcd_is g (unsigned_abs x)).0 xs
-
-pub content_of : ℕ → List (List ℤ) → ℕ
-content_of g [] = g
-content_of g (l ∷ lines) = content_of (line_content g l) lines
-
-abbrev pub place_of : ℕ → List ℕ → ℕ
-place_of z [] = 0
-place_of z (y ∷ zs) = if nat_eq z y then 0 else suc (place_of z zs)
-
-abbrev pub pivoted_by : ℕ → Table → ℕ → ℕ → ℤ → ℤ → List (List ℤ) → Table
-pivoted_by count t r s g D N = record {
-  d = int_div D g;
-  basis = rising count (set t.basis r (get_or (free_of count t.basis) s 0));
-  lines = sorted_lines count (set t.basis r (get_or (free_of count t.basis) s 0)) (set (free_of count t.basis) s (get_or t.basis r 0)) (map (quotients g) N);
-}
-
-abbrev pub divided : ℕ → Table → ℕ → ℕ → ℤ → List (List ℤ) → Table
-divided count t r s D N = pivoted_by count t r s (pos (content_of (unsigned_abs D) N)) D N
-
-abbrev pub pivoted_at : ℕ → Table → ℕ → ℕ → Table
-pivoted_at count t r s = divided count t r s (t.d *ℤ entry_at (line_at t.lines r) (suc s)) (turned_lines t.d t.lines r (suc s))
-
-abbrev pub pivoted : ℕ → Table → ℕ → ℕ → Table
-pivoted count t out into = pivoted_at count t (place_of out t.basis) (place_of into (free_of count t.basis))
-
-abbrev pub after_entering : ℕ → Table → ℕ → Option ℕ → Option Table
-after_entering count t out None = None
-after_entering count t out (Some into) = Some (pivoted count t out into)
-
-abbrev pub after_leaving : ℕ → Table → Option ℕ → Option Table
-after_leaving count t None = None
-after_leaving count t (Some out) = after_entering count t out (entering (free_of count t.basis) (line_of out t.basis t.lines))
-
-abbrev pub next_of : ℕ → Table → Option Table
-next_of count t = after_leaving count t (leaving t.basis t.lines)
-
-abbrev pub then_one : Option Table → (Table → ℕ) → ℕ
-then_one None f = 0
-then_one (Some t) f = suc (f t)
-
-unfoldable pub steps_left : ℕ → ℕ → Table → ℕ
-steps_left count zero t = 0
-steps_left count (suc k) t = then_one (next_of count t) (steps_left count k)
+use Rattle.row_pivots.specs.Steps.{IsTable, Table, after_entering, after_leaving, content_of, divided, line_content, next_of, pivoted, pivoted_at, pivoted_by, steps_left, table_of, then_one}
+use Rattle.row_pivots.specs.Tables.{place_of}
 
 -- ---- the content
 line_divides : (g : ℕ) (xs : List ℤ) (k : ℕ) → (k ∣ line_content g xs) ↔ ((k ∣ g) × All (λ x. k ∣ unsigned_abs x) xs)
@@ -184,9 +132,6 @@ pub record NextStep (vars : ℕ) (rows : List Row) (basis : List ℕ) (t : Table
   pub w : Change
   pub step : Step vars rows basis w t.basis
   pub table : IsTable vars rows t
-
-abbrev pub table_of : (vars : ℕ) (rows : List Row) (basis : List ℕ) → Form vars rows basis → Table
-table_of vars rows basis f = record { d = f.d; basis = basis; lines = f.lines }
 
 at_entries : (line : List ℤ) (s : ℕ) → entry_at line (suc s) ≡ get_or (entries line) s (pos 0)
 at_entries [] s = refl

@@ -23,11 +23,12 @@ use Rattle.integer_laws.specs.Laws.Vectors.{dot-plus, dot-scale}
 use Rattle.row_laws.specs.Laws.Independence.{vectors_of, is_in_member, from_zero}
 use Rattle.row_laws.specs.Laws.Lines.{has_same, member}
 use Rattle.row_laws.specs.Laws.Pivots.{below, of_filter, free_climbs, Swaps}
-use Rattle.row_pivots.specs.Changes.{Change, Moves, Under, AllUnder, NeverTwice, FirstMove, find, weaker, rest_under, few_changes}
-use Rattle.row_pivots.specs.Values.{Values, values, says_has, has_line, free_or_basic}
+use Rattle.row_pivots.specs.Laws.Changes.{Change, Moves, Under, AllUnder, NeverTwice, FirstMove, find, weaker, rest_under, few_changes}
+use Rattle.row_pivots.specs.Laws.Values.{Values, values, says_has, has_line, free_or_basic}
 use Rattle.seq_model.specs.Dictionaries.{meaning, one, combination, is_in, free_of, Form, Has}
 use Rattle.seq_model.specs.declared.row.Row.{Row}
 use Rattle.seq_model.specs.Walks.{constant, entries, Leaves, Enters, Pivots, IsWide, Follow}
+use Rattle.row_pivots.specs.Steps.{Distinct}
 
 -- ---- the two bases
 pub not_basic : (count : ℕ) (basis : List ℕ) (z : ℕ) → In z (free_of count basis) → In z basis → ⊥
@@ -372,9 +373,6 @@ pub short : (vars : ℕ) (rows : List Row) (a : List ℕ) (ws : List Change) (b 
 short vars rows a ws b run = few_changes (vars + length rows) ws (never_twice vars rows a ws b run) (all_under vars rows a ws b run)
 
 -- ---- lists of bases
-abbrev pub Distinct : List (List ℕ) → Type 0
-Distinct [] = Unit {0}
-Distinct (a ∷ bases) = ((b : List ℕ) → In b bases → a ≡ b → ⊥) × Distinct bases
 
 pub record Reach (vars : ℕ) (rows : List Row) (a b : List ℕ) : Type 0 where
   pub w : Change

@@ -22,52 +22,13 @@ use Rattle.integer_laws.specs.Laws.Ring.{expand}
 use Rattle.integer_laws.specs.Vectors.{dot}
 use Rattle.row_laws.specs.Laws.Independence.{true_or_false, equal_is, is_equal, in_basis, is_in_member, In-filter, In-range, Climbs}
 use Rattle.row_laws.specs.Laws.Pivots.{below, of_filter, filter_climbs, to_rises, free_climbs}
-use Rattle.row_pivots.specs.Pivoting.{AreRowsOf, InRange, Line, line_from, line_each, column}
-use Rattle.row_pivots.specs.Values.{free_or_basic}
+use Rattle.row_pivots.specs.Laws.Pivoting.{Line, line_from, line_each, column}
+use Rattle.row_pivots.specs.Tables.{AreRowsOf, InRange}
+use Rattle.row_pivots.specs.Laws.Values.{free_or_basic}
 use Rattle.seq_model.specs.Dictionaries.{meaning, one, combination, is_in, free_of, Says, DividesAll, Form, Has}
 use Rattle.seq_model.specs.Walks.{constant, entries}
 use Rattle.seq_model.specs.declared.row.Row.{Row}
-
-abbrev pub Fresh : List ℕ → Type 0
-Fresh [] = Unit {0}
-Fresh (x ∷ xs) = (In x xs → ⊥) × Fresh xs
-
-abbrev pub rising : ℕ → List ℕ → List ℕ
-rising count basic = filter (is_in basic) (range_with_len 0 count)
-
-abbrev pub entry_of : ℕ → List ℕ → List ℤ → ℤ
-entry_of y [] es = pos 0
-entry_of y (f ∷ free) [] = pos 0
-entry_of y (f ∷ free) (e ∷ es) = if nat_eq y f then e else entry_of y free es
-
-abbrev pub line_or : ℕ → List ℕ → List (List ℤ) → List ℤ
-line_or z [] lines = []
-line_or z (y ∷ basic) [] = []
-line_or z (y ∷ basic) (l ∷ lines) = if nat_eq z y then l else line_or z basic lines
-
-abbrev pub sorted_line : ℕ → List ℕ → List ℕ → List ℤ → List ℤ
-sorted_line count basic free line = constant line ∷ map (λ y. entry_of y free (entries line)) (free_of count basic)
-
-abbrev pub sorted_lines : ℕ → List ℕ → List ℕ → List (List ℤ) → List (List ℤ)
-sorted_lines count basic free lines = map (λ z. sorted_line count basic free (line_or z basic lines)) (rising count basic)
-
-pub record Holds (vars : ℕ) (rows : List Row) (d : ℤ) (basic free : List ℕ) (lines : List (List ℤ)) : Type 0 where
-  pub rows_are : AreRowsOf vars rows
-  pub positive : pos 1 ≤ℤ d
-  pub many : length basic ≡ length rows
-  pub fresh_basic : Fresh basic
-  pub fresh_free : Fresh free
-  pub apart : (y : ℕ) → In y free → In y basic → ⊥
-  pub small_basic : InRange (vars + length rows) basic
-  pub small_free : InRange (vars + length rows) free
-  pub cover : (y : ℕ) → y < vars + length rows → In y basic ⊎ In y free
-  pub says : Says vars rows d free basic lines
-  pub reduced : (k : ℕ) → DividesAll k d lines → k ≡ 1
-
-pub record Held (vars : ℕ) (rows : List Row) (d : ℤ) (basic free : List ℕ) (lines : List (List ℤ)) : Type 0 where
-  pub form : Form vars rows (rising (vars + length rows) basic)
-  pub d_is : form.d ≡ d
-  pub lines_are : form.lines ≡ sorted_lines (vars + length rows) basic free lines
+use Rattle.row_pivots.specs.Tables.{Fresh, Held, Holds, entry_of, line_or, rising, sorted_line, sorted_lines}
 
 -- ---- members
 differs : (x y : ℕ) → (x ≡ y → ⊥) → nat_eq x y ≡ false

@@ -25,28 +25,18 @@ use Rattle.integer_laws.specs.Laws.Vectors.{get_or-plus, get_or-scale}
 use Rattle.row_laws.specs.Laws.Independence.{true_or_false, in_basis, is_in_member, In-range, Climbs, taken, past_the_end}
 use Rattle.row_laws.specs.Laws.OneForm.{any_default}
 use Rattle.row_laws.specs.Laws.Pivots.{to_rises}
-use Rattle.row_pivots.specs.Pivoting.{AreRowsOf, Line, line_each, column}
-use Rattle.row_pivots.specs.Points.{slack_is}
-use Rattle.row_pivots.specs.Slacks.{by_variables}
-use Rattle.row_pivots.specs.Sorted.{Holds, entry_of, entry_none, line_or, says_or, same_sum, one_entry, range_climbs, rising, as_many, one_more}
+use Rattle.row_pivots.specs.Laws.Pivoting.{Line, line_each, column}
+use Rattle.row_pivots.specs.Tables.{AreRowsOf}
+use Rattle.row_pivots.specs.Laws.Points.{slack_is}
+use Rattle.row_pivots.specs.Laws.Slacks.{by_variables}
+use Rattle.row_pivots.specs.Laws.Sorted.{entry_none, says_or, same_sum, one_entry, range_climbs, as_many, one_more}
+use Rattle.row_pivots.specs.Tables.{Holds, entry_of, line_or, rising}
 use Rattle.seq_model.specs.Dictionaries.{meaning, one, is_in, free_of, Rises}
 use Rattle.seq_model.specs.Systems.{row_at, sum_constant, sum_coefficients, IsTaken, Contradiction}
 use Rattle.seq_model.specs.Walks.{constant, entries}
 use Rattle.seq_model.specs.declared.row.Row.{Row}
 use Rattle.seq_model.specs.declared.tree.Mult.{Mult}
-
-abbrev pub weight : ℤ → ℕ → List ℕ → List ℤ → ℕ → ℤ
-weight d out free line z = if nat_eq z out then d else neg_ℤ (entry_of z free (entries line))
-
-abbrev pub one_mult : ℕ → ℤ → List Mult
-one_mult r t = if lt_z (pos 0) t then record { row = r; times = t } ∷ [] else []
-
-abbrev pub mults : ℕ → (ℕ → ℤ) → ℕ → List Mult
-mults vars w zero = []
-mults vars w (suc n) = mults vars w n ++ one_mult n (w (vars + n))
-
-abbrev pub NoEntry : List ℕ → List ℤ → Type 0
-NoEntry free line = (y : ℕ) → In y free → entry_of y free (entries line) ≤ℤ pos 0
+use Rattle.row_pivots.specs.Ends.{NoEntry, mults, one_mult, weight}
 
 -- ---- sums over a range, from its end
 abbrev over : (ℕ → ℤ) → (ℕ → List ℤ) → ℕ → ℕ → ℕ → ℤ

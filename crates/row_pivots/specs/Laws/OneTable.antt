@@ -8,8 +8,9 @@ use Rattle.std.specs.Prelude.{nat_eq, if◌then◌else◌}
 use Rattle.integer_laws.specs.Members.{In}
 use Rattle.row_laws.specs.Laws.Independence.{is_equal}
 use Rattle.row_laws.specs.Laws.OneForm.{one_form}
-use Rattle.row_pivots.specs.Pivoting.{Line}
-use Rattle.row_pivots.specs.Sorted.{Fresh, Holds, Held, held, rising, sorted_line, sorted_lines, line_or, entry_of, rising_members, free_member, says_or, says_long}
+use Rattle.row_pivots.specs.Laws.Pivoting.{Line}
+use Rattle.row_pivots.specs.Laws.Sorted.{held, rising_members, free_member, says_or, says_long}
+use Rattle.row_pivots.specs.Tables.{Fresh, Holds, Held, rising, sorted_line, sorted_lines, line_or, entry_of}
 use Rattle.seq_model.specs.Dictionaries.{free_of, Form}
 use Rattle.seq_model.specs.Walks.{constant, entries}
 use Rattle.seq_model.specs.declared.row.Row.{Row}

@@ -13,11 +13,13 @@ use lib.Signed.{lt_z_yes, lt_z_no}
 use lib.Dec.{T}
 use Rattle.integer_laws.specs.Members.{In}
 use Rattle.row_laws.specs.Laws.Independence.{is_equal, true_or_false}
-use Rattle.row_pivots.specs.Contradictions.{NoEntry}
-use Rattle.row_pivots.specs.Measure.{place_of, place_is}
-use Rattle.row_pivots.specs.Pivoting.{get_or-In}
-use Rattle.row_pivots.specs.Sorted.{Fresh, Holds, line_or, entry_of, says_or, says_long}
-use Rattle.row_dictionary.specs.Placing.{line_placed, entry_placed}
+use Rattle.row_pivots.specs.Ends.{NoEntry}
+use Rattle.row_pivots.specs.Laws.Measure.{place_is}
+use Rattle.row_pivots.specs.Tables.{place_of}
+use Rattle.row_pivots.specs.Laws.Pivoting.{get_or-In}
+use Rattle.row_pivots.specs.Laws.Sorted.{says_or, says_long}
+use Rattle.row_pivots.specs.Tables.{Fresh, Holds, line_or, entry_of}
+use Rattle.row_dictionary.specs.Laws.Placing.{line_placed, entry_placed}
 use Rattle.seq_model.specs.Walks.{constant, entries}
 use Rattle.seq_model.specs.declared.row.Row.{Row}
 use Rattle.row_dictionary.specs.Scans.{least_upto, number_at, least_leaving, least_entering}
