@@ -13,7 +13,8 @@ use Rattle.row_pivots.specs.Tables.{AreRowsOf}
 use Rattle.row_pivots.specs.Laws.Slacks.{slack_table}
 use Rattle.row_pivots.specs.Tables.{Holds, rising, line_or}
 use Rattle.row_dictionary.specs.Laws.Found.{LeavesAt, EntersAt, leaves_at, none_leaves, enters_at, none_enters}
-use Rattle.row_dictionary.specs.Scans.{start, swapped}
+use Rattle.row_dictionary.specs.Scans.{start}
+use Rattle.row_dictionary.specs.Seen.{swapped}
 use Rattle.row_dictionary.specs.Seen.{Seen, IsOf}
 use Rattle.row_dictionary.specs.Turning.{Turned}
 use Rattle.row_dictionary.specs.declared.turn.Turn.{Turn}

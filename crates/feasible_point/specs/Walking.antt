@@ -30,7 +30,7 @@ use Rattle.row_pivots.specs.Tables.{Holds, Held, rising, sorted_line, sorted_lin
 use Rattle.row_pivots.specs.Laws.Turned.{set_members}
 use Rattle.row_dictionary.specs.Laws.Found.{LeavesAt, EntersAt}
 use Rattle.row_dictionary.specs.Laws.Placing.{range_on}
-use Rattle.row_dictionary.specs.Scans.{swapped}
+use Rattle.row_dictionary.specs.Seen.{swapped}
 use Rattle.row_dictionary.specs.Seen.{Seen, IsOf}
 use Rattle.seq_model.specs.Dictionaries.{free_of, is_in, Form, Has, WideAt}
 use Rattle.seq_model.specs.Systems.{MeetsRows}

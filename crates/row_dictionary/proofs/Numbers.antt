@@ -18,7 +18,7 @@ use Rattle.row_laws.specs.Laws.OneForm.{any_default}
 use Rattle.row_pivots.specs.Ends.{Small}
 use Rattle.row_pivots.specs.Turns.{quotients}
 use Rattle.row_dictionary.specs.Mixing.{mixed, mixed_numbers, mixed_line, IsCommon}
-use Rattle.row_dictionary.specs.declared.Mix.{Mix}
+use Rattle.row_dictionary.specs.declared.number.Mix.{Mix}
 
 pub long_numbers : (m : Mix) (zs ys : List ℤ) → length zs ≡ length ys → length (mixed_numbers m zs ys) ≡ length zs
 long_numbers m zs ys l = let c = length-combined m.p m.q zs ys in length-set (combined m.p m.q zs ys) m.place (m.d *ℤ m.q) ∙ omega (arith, c, l)

@@ -14,7 +14,7 @@ use Rattle.row_laws.specs.Laws.Kernel.{cancel_factor}
 use Rattle.row_laws.specs.Laws.OneForm.{list_same}
 use Rattle.row_dictionary.specs.Mixing.{mixed, mixed_line}
 use Rattle.row_dictionary.specs.Tables.{mix_of, step_line}
-use Rattle.row_dictionary.specs.declared.Mix.{Mix}
+use Rattle.row_dictionary.specs.declared.number.Mix.{Mix}
 use Rattle.row_dictionary.specs.declared.table.Step.{Step}
 use Rattle.row_dictionary.proofs.Numbers.{quotient_is, long_line}
 

@@ -78,7 +78,7 @@ says_turned vars rows are d free basic lines small_free small_basic r s in_r in_
       (subst (λ n. Line vars rows d free into (unit_line n (suc s) d)) (sym leaves.0) (unit_says vars rows are d free small_free s in_s)))
 
 -- ---- what stands in the lists
-fresh_set : (xs : List ℕ) (i y : ℕ) → Fresh xs → (In y xs → ⊥) → Fresh (set xs i y)
+pub fresh_set : (xs : List ℕ) (i y : ℕ) → Fresh xs → (In y xs → ⊥) → Fresh (set xs i y)
 fresh_set [] i y f n = tt
 fresh_set (x ∷ xs) zero y f n = (λ k. n (inr k), f.1)
 fresh_set (x ∷ xs) (suc i) y f n = (λ k. by (In-set xs i y x k), fresh_set xs i y f.1 (λ k. n (inr k)))

@@ -4,7 +4,7 @@ use Rattle.integer_laws.specs.Laws.InPlace.{get_or-rewritten, rewritten_more, re
 use Rattle.row_pivots.specs.Ends.{Small}
 use Rattle.row_dictionary.specs.Mixing.{mixed, mixed_line}
 use Rattle.row_dictionary.proofs.Numbers.{quotient_is, long_line}
-use Rattle.row_dictionary.proofs.pivot_line.Goals as goal
+use Rattle.row_dictionary.proofs.number.pivot_line.Goals as goal
 
 pub new_number-requires-clause-fits : goal.new_number-requires-clause-fits
 new_number-requires-clause-fits c =
