@@ -73,6 +73,12 @@ impl Variables {
         is_among(self.places.as_slice(), self.basic.as_slice(), z)
     }
 
+    pub fn is_free(&self, z: u32) -> bool
+        ensures { IsTrue result ↔ Contains self.now.free z }
+    {
+        is_among(self.places.as_slice(), self.free.as_slice(), z)
+    }
+
     /// What stands at place r of the basic variables and what stands at place s of the free ones change places.
     pub fn exchange(&mut self, r: usize, s: usize)
         requires r { r < length self.old.basic }
