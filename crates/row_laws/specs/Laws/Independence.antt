@@ -72,7 +72,7 @@ which (suc k) (w ∷ vs) v (inr i) = by (which k vs v i)
     by (inl s) = inl s
     by (inr j) = inr (inr j)
 
-combine_one : (es : List ℤ) (vs : List (List ℤ)) (u : List ℤ) (k : ℕ) → length es ≡ length vs → k < length vs → ((v : List ℤ) → In v (others_of k vs) → dot v u ≡ pos 0)
+pub combine_one : (es : List ℤ) (vs : List (List ℤ)) (u : List ℤ) (k : ℕ) → length es ≡ length vs → k < length vs → ((v : List ℤ) → In v (others_of k vs) → dot v u ≡ pos 0)
     → dot (combination es vs) u ≡ get_or es k (pos 0) *ℤ dot (get_or vs k []) u
 combine_one [] [] u k l h z = absurd (omega (arith, h))
 combine_one [] (v ∷ vs) u k l h z = absurd (omega (arith, l))
@@ -105,7 +105,7 @@ zero_dot (x ∷ a) (y ∷ u) h = settle x y (dot a u) (h 0) (zero_dot a u (λ k.
         plain : (y : ℤ) → pos 0 *ℤ y +ℤ pos 0 ≡ pos 0
         plain y = simp expand
 
-past_the_end : (xs : List ℤ) (k : ℕ) → length xs ≤ k → get_or xs k (pos 0) ≡ pos 0
+pub past_the_end : (xs : List ℤ) (k : ℕ) → length xs ≤ k → get_or xs k (pos 0) ≡ pos 0
 past_the_end [] k h = refl
 past_the_end (x ∷ xs) zero h = absurd (omega (arith, h))
 past_the_end (x ∷ xs) (suc k) h = past_the_end xs k (omega (arith, h))
@@ -195,7 +195,7 @@ pub from_zero : (end : ℕ) (zs : List ℕ) → Rises end zs → Climbs 0 end zs
 from_zero end [] r = tt
 from_zero end (z ∷ zs) r = climbs end 0 z zs (omega arith) r
 
-taken : (p : ℕ → Bool) (low n end : ℕ) (zs : List ℕ) → end ≡ low + n → Climbs low end zs → ((z : ℕ) → In z zs → p z ≡ true) → length zs ≤ length (filter p (range_with_len low n))
+pub taken : (p : ℕ → Bool) (low n end : ℕ) (zs : List ℕ) → end ≡ low + n → Climbs low end zs → ((z : ℕ) → In z zs → p z ≡ true) → length zs ≤ length (filter p (range_with_len low n))
 taken p low n end [] e c h = omega arith
 taken p low zero end (z ∷ zs) e c h = absurd (omega (arith, e, c.0, c.1))
 taken p low (suc n) end (z ∷ zs) e c h =
@@ -225,13 +225,13 @@ says_of vars rows d free (b ∷ basis) [] s z i = absurd s
 says_of vars rows d free (b ∷ basis) (line ∷ lines) s z (inl e) = (line, ap (λ t. scale d (meaning vars rows t)) e ∙ s.0.1)
 says_of vars rows d free (b ∷ basis) (line ∷ lines) s z (inr i) = says_of vars rows d free basis lines s.1 z i
 
-variable_is : (vars : ℕ) (rows : List Row) (z : ℕ) → z < vars → meaning vars rows z ≡ unit (suc vars) (suc z)
+pub variable_is : (vars : ℕ) (rows : List Row) (z : ℕ) → z < vars → meaning vars rows z ≡ unit (suc vars) (suc z)
 variable_is vars rows z h = ap (λ (b : Bool). if b then pos 0 ∷ slice_set (replicate vars (pos 0)) z (pos 1) else (row_at rows (z - vars)).c ∷ (row_at rows (z - vars)).a) (below z vars h)
   where
     below : (z n : ℕ) → z < n → nat_lt z n ≡ true
     below z n h = grind (arith, nat_tests)
 
-only_zeros : (vars : ℕ) (rows : List Row) (basis : List ℕ) → Form vars rows basis → (u : List ℤ) → length u ≡ suc vars → ((v : List ℤ) → In v (vectors_of vars rows basis) → dot v u ≡ pos 0)
+pub only_zeros : (vars : ℕ) (rows : List Row) (basis : List ℕ) → Form vars rows basis → (u : List ℤ) → length u ≡ suc vars → ((v : List ℤ) → In v (vectors_of vars rows basis) → dot v u ≡ pos 0)
     → (k : ℕ) → get_or u k (pos 0) ≡ pos 0
 only_zeros vars rows basis f u long z zero = sym (dot-unit (suc vars) 0 u (omega arith)) ∙ z (one vars) (inl refl)
 only_zeros vars rows basis f u long z (suc k) = by (cases_lt k vars)
@@ -258,7 +258,7 @@ only_zeros vars rows basis f u long z (suc k) = by (cases_lt k vars)
         decide (inl e) = basic h e
         decide (inr e) = free h e
 
-few_free : (vars : ℕ) (rows : List Row) (basis : List ℕ) → length basis ≡ length rows → Rises (vars + length rows) basis → length (vectors_of vars rows basis) ≤ suc vars
+pub few_free : (vars : ℕ) (rows : List Row) (basis : List ℕ) → length basis ≡ length rows → Rises (vars + length rows) basis → length (vectors_of vars rows basis) ≤ suc vars
 few_free vars rows basis many rises =
     let range = range_with_len 0 (vars + length rows) in
     let basics = taken (is_in basis) 0 (vars + length rows) (vars + length rows) basis (omega arith) (from_zero (vars + length rows) basis rises) (λ z i. is_in_member basis z i) in

@@ -58,7 +58,7 @@ all_proportional vars rows d c free i (z ∷ basis) (l ∷ L) (m ∷ M) s t zero
     lines_proportional d c l m (meaning vars rows z) (one vars ∷ map (meaning vars rows) free) i (s.0.0 ∙ ap suc (sym long)) (t.0.0 ∙ ap suc (sym long)) s.0.1 t.0.1 j
 all_proportional vars rows d c free i (z ∷ basis) (l ∷ L) (m ∷ M) s t (suc r) j = all_proportional vars rows d c free i basis L M s.1 t.1 r j
 
-list_same : (a b : List ℤ) → length a ≡ length b → ((j : ℕ) → get_or a j (pos 0) ≡ get_or b j (pos 0)) → a ≡ b
+pub list_same : (a b : List ℤ) → length a ≡ length b → ((j : ℕ) → get_or a j (pos 0) ≡ get_or b j (pos 0)) → a ≡ b
 list_same [] [] l h = refl
 list_same [] (y ∷ b) l h = absurd (omega (arith, l))
 list_same (x ∷ a) [] l h = absurd (omega (arith, l))
@@ -74,7 +74,7 @@ lines_same vars rows d free p (z ∷ basis) (l ∷ L) [] s t h = absurd t
 lines_same vars rows d free p (z ∷ basis) (l ∷ L) (m ∷ M) s t h =
     ap (λ u. u ∷ L) (list_same l m (s.0.0 ∙ sym t.0.0) (λ j. cancel_same d p (h 0 j))) ∙ ap (λ u. m ∷ u) (lines_same vars rows d free p basis L M s.1 t.1 (λ r j. h (suc r) j))
 
-any_default : {X : Type 0} (xs : List X) (k : ℕ) (a b : X) → k < length xs → get_or xs k a ≡ get_or xs k b
+pub any_default : {X : Type 0} (xs : List X) (k : ℕ) (a b : X) → k < length xs → get_or xs k a ≡ get_or xs k b
 any_default [] k a b h = absurd (omega (arith, h))
 any_default (x ∷ xs) zero a b h = refl
 any_default (x ∷ xs) (suc k) a b h = any_default xs k a b (omega (arith, h))

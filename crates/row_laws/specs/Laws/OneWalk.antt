@@ -49,7 +49,7 @@ one_walk vars rows start (b ∷ bs) (c ∷ cs) v w =
     let r = one_way vars rows start bs cs (subst (λ t. Steps vars rows (t ∷ bs)) p (steps_of vars rows start (b ∷ bs) v)) (subst (λ t. Steps vars rows (t ∷ cs)) q (steps_of vars rows start (c ∷ cs) w)) in
     ap (λ t. t ∷ bs) p ∙ ap (λ t. start ∷ t) r ∙ ap (λ t. t ∷ cs) (sym q)
 
-last_same : (a b : List (List ℕ)) (x y : List ℕ) → a ++ x ∷ [] ≡ b ++ y ∷ [] → x ≡ y
+pub last_same : (a b : List (List ℕ)) (x y : List ℕ) → a ++ x ∷ [] ≡ b ++ y ∷ [] → x ≡ y
 last_same [] [] x y e = ap (λ l. get_or l 0 x) e
 last_same [] (c ∷ []) x y e = absurd (omega (arith, ap length e))
 last_same [] (c ∷ d ∷ b) x y e = absurd (omega (arith, ap length e))

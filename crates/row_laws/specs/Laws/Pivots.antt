@@ -29,7 +29,7 @@ lower : (low end : ℕ) (zs : List ℕ) → Climbs (low + 1) end zs → Climbs l
 lower low end [] c = tt
 lower low end (z ∷ zs) c = (omega (arith, c.0), c.1, c.2)
 
-filter_climbs : (p : ℕ → Bool) (low n end : ℕ) → end ≡ low + n → Climbs low end (filter p (range_with_len low n))
+pub filter_climbs : (p : ℕ → Bool) (low n end : ℕ) → end ≡ low + n → Climbs low end (filter p (range_with_len low n))
 filter_climbs p low zero end e = tt
 filter_climbs p low (suc n) end e = by (p low) (filter_climbs p (low + 1) n end (omega (arith, e)))
   where
@@ -37,7 +37,7 @@ filter_climbs p low (suc n) end e = by (p low) (filter_climbs p (low + 1) n end 
     by true c = (omega arith, omega (arith, e), c)
     by false c = lower low end (filter p (range_with_len (low + 1) n)) c
 
-to_rises : (low end : ℕ) (zs : List ℕ) → Climbs low end zs → Rises end zs
+pub to_rises : (low end : ℕ) (zs : List ℕ) → Climbs low end zs → Rises end zs
 to_rises low end [] c = tt
 to_rises low end (a ∷ []) c = c.1
 to_rises low end (a ∷ b ∷ zs) c = (omega (arith, c.2.0), to_rises (a + 1) end (b ∷ zs) c.2)
@@ -52,11 +52,11 @@ not_negative_is [] e = omega (arith, ints)
 not_negative_is (c ∷ rest) e = lt_z_no (subst (λ b. T (not b)) (sym e) tt)
 
 -- what the search for it finds
-abbrev Left : List ℕ → List (List ℤ) → Option ℕ → Type 0
+abbrev pub Left : List ℕ → List (List ℤ) → Option ℕ → Type 0
 Left basis lines None = NothingLeaves basis lines
 Left basis lines (Some z) = Leaves basis lines z
 
-left : (low end : ℕ) (basis : List ℕ) (lines : List (List ℤ)) → Climbs low end basis → Left basis lines (leaving basis lines)
+pub left : (low end : ℕ) (basis : List ℕ) (lines : List (List ℤ)) → Climbs low end basis → Left basis lines (leaving basis lines)
 left low end [] lines c = λ z line h. absurd h
 left low end (z ∷ basis) [] c = λ y line h. absurd h
 left low end (z ∷ basis) (line ∷ lines) c = by (has_negative_constant line) refl (leaving basis lines) (left (z + 1) end basis lines c.2)
@@ -84,11 +84,11 @@ left low end (z ∷ basis) (line ∷ lines) c = by (has_negative_constant line) 
     by false e found l = later e found l
 
 -- ---- what enters
-abbrev Entered : List ℕ → List ℤ → Option ℕ → Type 0
+abbrev pub Entered : List ℕ → List ℤ → Option ℕ → Type 0
 Entered free numbers None = NothingEnters free numbers
 Entered free numbers (Some z) = Enters free numbers z
 
-entered : (low end : ℕ) (free : List ℕ) (numbers : List ℤ) → Climbs low end free → Entered free numbers (first_positive free numbers)
+pub entered : (low end : ℕ) (free : List ℕ) (numbers : List ℤ) → Climbs low end free → Entered free numbers (first_positive free numbers)
 entered low end [] numbers c = λ z x h. absurd h
 entered low end (z ∷ free) [] c = λ y x h. absurd h
 entered low end (z ∷ free) (n ∷ numbers) c = by (lt_z (pos 0) n) refl (first_positive free numbers) (entered (z + 1) end free numbers c.2)
@@ -118,17 +118,17 @@ entered low end (z ∷ free) (n ∷ numbers) c = by (lt_z (pos 0) n) refl (first
     by false e found l = later e found l
 
 -- ---- the line of what leaves, and the next basis
-entering_is : (free : List ℕ) (line : List ℤ) → entering free (Some line) ≡ first_positive free (entries line)
+pub entering_is : (free : List ℕ) (line : List ℤ) → entering free (Some line) ≡ first_positive free (entries line)
 entering_is [] [] = refl
 entering_is (z ∷ free) [] = refl
 entering_is free (c ∷ rest) = refl
 
-below : (low end : ℕ) (zs : List ℕ) (z : ℕ) → Climbs low end zs → In z zs → (low ≤ z) × (z < end)
+pub below : (low end : ℕ) (zs : List ℕ) (z : ℕ) → Climbs low end zs → In z zs → (low ≤ z) × (z < end)
 below low end [] z c i = absurd i
 below low end (y ∷ zs) z c (inl s) = (omega (arith, s, c.0), omega (arith, s, c.1))
 below low end (y ∷ zs) z c (inr i) = let r = below (y + 1) end zs z c.2 i in (omega (arith, r.0, c.0), r.1)
 
-of_filter : (p : ℕ → Bool) (xs : List ℕ) (z : ℕ) → In z (filter p xs) → p z ≡ true
+pub of_filter : (p : ℕ → Bool) (xs : List ℕ) (z : ℕ) → In z (filter p xs) → p z ≡ true
 of_filter p [] z i = absurd i
 of_filter p (x ∷ xs) z i = by (p x) refl i (of_filter p xs z)
   where
@@ -170,7 +170,7 @@ swapped_members count basis out into c small z = (there, back)
         other : (z y : ℕ) → z ≢ y → nat_eq z y ≡ false
         other z y n = grind (arith, nat_tests, n)
 
-abbrev Swaps : List ℕ → ℕ → ℕ → List ℕ → Type 0
+abbrev pub Swaps : List ℕ → ℕ → ℕ → List ℕ → Type 0
 Swaps basis out into next = (z : ℕ) → Contains next z ↔ ((z ≡ into) ⊎ (Contains basis z × (z ≢ out)))
 
 swapped_is : (count : ℕ) (basis : List ℕ) (out into : ℕ) → Climbs 0 count basis → into < count → Swaps basis out into (swapped count basis out into)
@@ -195,7 +195,7 @@ abbrev pub Result : ℕ → List Row → List ℕ → Option (List ℕ) → Type
 Result vars rows basis None = Stops vars rows basis
 Result vars rows basis (Some next) = Pivots vars rows basis next
 
-free_climbs : (count : ℕ) (basis : List ℕ) → Climbs 0 count (free_of count basis)
+pub free_climbs : (count : ℕ) (basis : List ℕ) → Climbs 0 count (free_of count basis)
 free_climbs count basis = filter_climbs (λ z. not (is_in basis z)) 0 count count (omega arith)
 
 result : (vars : ℕ) (rows : List Row) (basis : List ℕ) (f : Form vars rows basis) → Result vars rows basis (next_basis (vars + length rows) basis f.lines)
@@ -227,7 +227,7 @@ result vars rows basis f = by (leaving basis f.lines) (left 0 (vars + length row
         (goes_in out l (first_positive free (entries l.line)) (entered 0 (vars + length rows) free (entries l.line) (free_climbs (vars + length rows) basis)))
 
 -- ---- and it is one alone
-rising_same : (low end : ℕ) (a b : List ℕ) → Climbs low end a → Climbs low end b → ((z : ℕ) → In z a → In z b) → ((z : ℕ) → In z b → In z a) → a ≡ b
+pub rising_same : (low end : ℕ) (a b : List ℕ) → Climbs low end a → Climbs low end b → ((z : ℕ) → In z a → In z b) → ((z : ℕ) → In z b → In z a) → a ≡ b
 rising_same low end [] [] c d f g = refl
 rising_same low end [] (y ∷ b) c d f g = absurd (g y (inl refl))
 rising_same low end (x ∷ a) [] c d f g = absurd (f x (inl refl))
@@ -262,7 +262,7 @@ Moves basis free lines out into = (l : Leaves basis lines out) × Enters free (e
 abbrev Halts : List ℕ → List ℕ → List (List ℤ) → Type 0
 Halts basis free lines = NothingLeaves basis lines ⊎ ((out : ℕ) × (l : Leaves basis lines out) × NothingEnters free (entries l.line))
 
-same_line : (end : ℕ) (basis : List ℕ) (lines : List (List ℤ)) (a b : ℕ) → Climbs 0 end basis → (l : Leaves basis lines a) (m : Leaves basis lines b) → (a ≡ b) × (l.line ≡ m.line)
+pub same_line : (end : ℕ) (basis : List ℕ) (lines : List (List ℤ)) (a b : ℕ) → Climbs 0 end basis → (l : Leaves basis lines a) (m : Leaves basis lines b) → (a ≡ b) × (l.line ≡ m.line)
 same_line end basis lines a b c l m =
     let p = l.least b m.line m.has m.negative in
     let q = m.least a l.line l.has l.negative in

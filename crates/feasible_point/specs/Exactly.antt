@@ -1,0 +1,59 @@
+-- When each answer comes: just where what it says is so.
+--
+--   NoPoint rows                 no point meets all rows
+--   SomeWide vars rows           the walk from all slacks ends before a wide basis
+--   Exactly vars rows solved     each answer comes just where its case is so
+use Rattle.std.proofs.Common.{◌≡◌, ◌↔◌, ℕ, List, ℤ}
+use Rattle.model_laws.specs.Laws.Farkas.{no_point}
+use Rattle.feasible_point.specs.Answering.{NeverWide, Solves}
+use Rattle.feasible_point.specs.declared.Solved.{Solved}
+use Rattle.feasible_point.specs.declared.Solved.TheVariants as Solveds
+use Rattle.seq_model.specs.Systems.{MeetsRows}
+use Rattle.seq_model.specs.Walks.{WalkWide}
+use Rattle.seq_model.specs.declared.row.Row.{Row}
+
+abbrev pub IsPoint : Solved → Type 0
+IsPoint (Solveds.Point den list) = Unit {0}
+IsPoint (Solveds.Contradiction list) = ⊥
+IsPoint (Solveds.Wide basis row) = ⊥
+
+abbrev pub IsContradiction : Solved → Type 0
+IsContradiction (Solveds.Point den list) = ⊥
+IsContradiction (Solveds.Contradiction list) = Unit {0}
+IsContradiction (Solveds.Wide basis row) = ⊥
+
+abbrev pub IsWideAnswer : Solved → Type 0
+IsWideAnswer (Solveds.Point den list) = ⊥
+IsWideAnswer (Solveds.Contradiction list) = ⊥
+IsWideAnswer (Solveds.Wide basis row) = Unit {0}
+
+abbrev pub NoPoint : List Row → Type 0
+NoPoint rows = (d : ℤ) (u : List ℤ) → MeetsRows rows d u → ⊥
+
+abbrev pub SomePoint : List Row → Type 0
+SomePoint rows = (d : ℤ) × (u : List ℤ) × MeetsRows rows d u
+
+abbrev pub SomeWide : ℕ → List Row → Type 0
+SomeWide vars rows = (basis : List ℕ) × (row : ℕ) × WalkWide vars rows basis row
+
+pub record Exactly (vars : ℕ) (rows : List Row) (solved : Solved) : Type 0 where
+  pub point : IsPoint solved ↔ (SomePoint rows × NeverWide vars rows)
+  pub contradiction : IsContradiction solved ↔ (NoPoint rows × NeverWide vars rows)
+  pub wide : IsWideAnswer solved ↔ SomeWide vars rows
+
+pub exactly : (vars : ℕ) (rows : List Row) (solved : Solved) → Solves vars rows solved → Exactly vars rows solved
+exactly vars rows (Solveds.Point den list) s = record {
+  point = (λ i. ((den, list.items, s.0), s.2), λ k. tt);
+  contradiction = (λ i. absurd i, λ k. k.0 den list.items s.0);
+  wide = (λ i. absurd i, λ k. s.2 k.0 k.1 k.2);
+}
+exactly vars rows (Solveds.Contradiction list) s = record {
+  point = (λ i. absurd i, λ k. no_point rows list.items s.0 k.0.0 k.0.1 k.0.2);
+  contradiction = (λ i. (no_point rows list.items s.0, s.5), λ k. tt);
+  wide = (λ i. absurd i, λ k. s.5 k.0 k.1 k.2);
+}
+exactly vars rows (Solveds.Wide basis row) s = record {
+  point = (λ i. absurd i, λ k. k.1 basis.items row s);
+  contradiction = (λ i. absurd i, λ k. k.1 basis.items row s);
+  wide = (λ i. (basis.items, row, s), λ k. tt);
+}
