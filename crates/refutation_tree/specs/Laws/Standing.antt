@@ -3,9 +3,9 @@ use Rattle.std.proofs.Common.{◌≡◌, ℕ, zero, suc, ◌<◌, List, [], ◌�
 use Rattle.std.proofs.lemmas.List.{take-map, get_or-map, length-map}
 use Rattle.std.proofs.lemmas.List.Elements.{All-take}
 use Rattle.std.specs.List.{position_or_len}
-use Rattle.refutation_tree.specs.Numbering.{place_is}
+use Rattle.refutation_tree.specs.Laws.Numbering.{place_is}
 use Rattle.model_laws.specs.Laws.Reading.{reads_weaker}
-use Rattle.refutation_tree.specs.Goodness.{path_at, AreGood, visits_reads}
+use Rattle.refutation_tree.specs.Laws.Goodness.{path_at, AreGood, visits_reads}
 use Rattle.refutation_tree.specs.Grown.{made_at, node_of, children_of, Visits, IsOrder, IsWhole, IsNumber}
 use Rattle.refutation_tree.specs.declared.growing.Made.{Made}
 use Rattle.seq_model.specs.Splits.{StandsAt}
