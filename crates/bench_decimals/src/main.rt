@@ -1,5 +1,5 @@
 //! Reads 1,800,000 spelt lengths, as a mesh of 200,000 facets has, and prints the sum of their micrometres.
-//! `bench/decimals_1800000` times it. Nothing is promised here but that `read_um` may be called.
+//! `bench/run decimals` times it. Nothing is promised here but that `read_um` may be called.
 #![tactic(auto)]
 
 use decimal_lengths::read_um;

@@ -1,5 +1,5 @@
 //! Takes the hull of 1,000,000 spots that are scattered over a square, and prints how many corners it has.
-//! `bench/hull_of_1000000_spots` times it. Nothing is promised here but that `hull` may be called.
+//! `bench/run hull` times it. Nothing is promised here but that `hull` may be called.
 #![tactic(auto)]
 
 ghost use Rattle.std.specs.Prelude.{◌<◌, ◌^◌, unsigned_abs, IfOk, All};

@@ -1,10 +1,10 @@
 //! Adds orders to the graphs of 16 objects that cost most, and completes them, 1,000,000 times each. It prints what
-//! came of it, and on the error stream the nanoseconds of a call; `bench/orders_of_16_objects` runs it. Nothing is
+//! came of it, and on the error stream the nanoseconds of a call; `bench/run orders` runs it. Nothing is
 //! promised here but that the calls may be made.
 #![tactic(auto)]
 
 ghost use Rattle.std.specs.Prelude.{◌≡◌, ◌≢◌, ◌↔◌, ◌<◌, length, IsTrue, IfSome};
-ghost use Rattle.order_graph.specs.Orders.{AreAmong};
+ghost use Rattle.object_orders.specs.Orders.{AreAmong};
 
 use order_graph::OrderGraph;
 use std::io;

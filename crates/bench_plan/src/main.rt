@@ -1,5 +1,5 @@
 //! Reads the plan at the front of a file of 256 MiB, nearly all of it a tree block, 1,000 times, and prints where its lines end.
-//! `bench/plans_of_256_MiB` times it: a reader that copied or scanned the block would take minutes and twice the memory. Nothing
+//! `bench/run plan` times it: a reader that copied or scanned the block would take minutes and twice the memory. Nothing
 //! is promised here but that `read_plan` may be called.
 #![tactic(auto)]
 

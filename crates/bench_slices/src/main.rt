@@ -1,6 +1,6 @@
 //! Slices a mesh of scattered facets into 200 bands, and prints the numbers of its bands, zones and corners: 200,000 facets that
 //! each span 20 bands with the word `tall`, 200,000 that each lie in one or two with the word `small`, and else 3,000 that each
-//! span 20. `bench/slices_of_200000_facets` times the first two. With 3,000 most bands have more than 4,000 spots, so that spots
+//! span 20. `bench/run slices WORD` times it. With 3,000 most bands have more than 4,000 spots, so that spots
 //! are folded. Nothing is promised here but that `object` may be called.
 #![tactic(auto)]
 

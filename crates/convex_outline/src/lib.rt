@@ -21,9 +21,8 @@ mod inner;
 mod outward;
 
 pub use inner::is_inner;
-pub use outward::sides;
-
 use integer_laws::{difference, wide_product};
+pub use outward::sides;
 use seq_model::Spot;
 use seq_num::NoMemory;
 use std::alloc::{AllocError, Global};

@@ -32,7 +32,7 @@ no_point_to_the_east at on = no_point (system two_cubes 45 path_to_the_east) (ti
 pub nowhere : Grounded two_cubes 45 path_to_the_east (Nodes.Side first_contact 4) → ⊥
 nowhere g = no_point_to_the_east g.at g.on
 
-no_room : (at : Values) → IsOn two_cubes 21 [] at → ⊥
+pub no_room : (at : Values) → IsOn two_cubes 21 [] at → ⊥
 no_room at on = no_point (system two_cubes 21 []) (times 0 1 1 0) (contradiction_is (system two_cubes 21 []) (times 0 1 1 0) refl) at.d at.u on.meets
 
 pub some_child : (p : List Choice) (ps : List (List Choice)) → (p ∷ ps) ≡ [] → ⊥

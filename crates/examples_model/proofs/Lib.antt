@@ -5,6 +5,7 @@ pub mod CubeLaws
 pub mod CycleLaws
 pub mod FullLaws
 pub mod OrderLaws
+pub mod OtherOrder
 pub mod PathLaws
 pub mod PlacedLaws
 pub mod PlanLaws
@@ -17,3 +18,4 @@ pub mod SystemLaws
 pub mod TreeLaws
 pub mod WalkLaws
 pub mod WideLaws
+pub mod WideStart

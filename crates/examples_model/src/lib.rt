@@ -10,6 +10,7 @@
 #![tactic(auto)]
 
 pub mod bands;
+pub mod certificates;
 pub mod outlines;
 pub mod pairs;
 pub mod plans;

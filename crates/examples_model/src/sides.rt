@@ -10,7 +10,8 @@ ghost use Rattle.examples_model.specs.Jobs.{two_cubes, two_wedges};
 /// The sides of two cubes with the nozzle are the four directions along the axes, at distance 24.
 pub fn sides_of_two_cubes()
     ensures sides { AreSides (points_of two_cubes first_contact) four_sides }
-    ensures greatest { map (λ dir. greatest_along dir (points_of two_cubes first_contact)) four_sides ≡ pos 24 ∷ pos 24 ∷ pos 24 ∷ pos 24 ∷ [] }
+    ensures greatest { map (λ dir. greatest_along dir (points_of two_cubes first_contact)) four_sides
+        ≡ pos 24 ∷ pos 24 ∷ pos 24 ∷ pos 24 ∷ [] }
 {}
 
 /// A cube at a distance of 24 stands beyond the side to the east, and at 47/2 it doesn't.
@@ -24,5 +25,6 @@ pub fn beyond_the_side_to_the_east()
 pub fn sides_of_two_wedges()
     ensures sides { AreSides (points_of two_wedges first_contact) six_sides }
     ensures all { AreSides (points_of two_wedges first_contact) five_sides → ⊥ }
-    ensures greatest { map (λ dir. greatest_along dir (points_of two_wedges first_contact)) six_sides ≡ pos 24 ∷ pos 28 ∷ pos 24 ∷ pos 24 ∷ pos 28 ∷ pos 24 ∷ [] }
+    ensures greatest { map (λ dir. greatest_along dir (points_of two_wedges first_contact)) six_sides
+        ≡ pos 24 ∷ pos 28 ∷ pos 24 ∷ pos 24 ∷ pos 28 ∷ pos 24 ∷ [] }
 {}

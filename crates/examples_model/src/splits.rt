@@ -67,7 +67,8 @@ pub fn nothing_to_split()
 
 /// The order of two cubes is earned only where they collide both ways: no two of them stand side by side in a cycle of forced orders.
 pub fn an_order_of_two_is_earned_both_ways()
-    ensures { (e : ℕ) → Earned two_cubes e [] (Nodes.Order 0 1) → Somewhere two_cubes e [] (λ at. CollidesAt two_cubes e at 0 1 × CollidesAt two_cubes e at 1 0) }
+    ensures { (e : ℕ) → Earned two_cubes e [] (Nodes.Order 0 1)
+        → Somewhere two_cubes e [] (λ at. CollidesAt two_cubes e at 0 1 × CollidesAt two_cubes e at 1 0) }
 {}
 
 /// The tree that refutes extent 45 for two cubes, with its first bound left pending, isn't spent: at the path of that leaf no point is left,

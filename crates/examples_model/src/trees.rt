@@ -27,12 +27,13 @@ pub fn cycles_of_a_path()
     ensures no_object { Refutes two_cubes 100 (before 0 0 ∷ []) (Nodes.Cycle [] ∷ []) → ⊥ }
 {}
 
-/// The second of two cubes may be put to the east of the first once the first is printed before it: not without this order, not before it
-/// is chosen, and not beyond a direction that is no side of the two. Nor is there a side by the gantry of a low cube, printed first, and a
+/// The second of two cubes may be put to the east of the first once the first is printed before it: not without this order, not with the other one, not
+/// before it is chosen, and not beyond a direction that is no side of the two. Nor is there a side by the gantry of a low cube, printed first, and a
 /// tall one: the gantry doesn't reach down to the low one.
 pub fn a_side_follows_its_order()
     ensures follows { IsPath two_cubes (before 0 1 ∷ beyond east ∷ []) }
     ensures alone { IsPath two_cubes (beyond east ∷ []) → ⊥ }
+    ensures other_order { IsPath two_cubes (before 1 0 ∷ beyond east ∷ []) → ⊥ }
     ensures too_soon { IsPath two_cubes (beyond east ∷ before 0 1 ∷ []) → ⊥ }
     ensures no_side { IsPath two_cubes (before 0 1 ∷ beyond northeast ∷ []) → ⊥ }
     ensures no_contact { IsPath tall_and_low (before 1 0 ∷ Choices.Side low_under_the_gantry east ∷ []) → ⊥ }
@@ -51,6 +52,7 @@ pub fn a_side_node_of_no_contact()
 /// A tree is whole by the numbers of children that its nodes say. The tree of two cubes has leaves with two splits above them. A side node
 /// may say one child though its contact has four sides; a node less, or one more, is no whole tree.
 pub fn trees_by_their_counts()
+    ensures whole { IsWhole (tree (bound 2 1 4 1)) }
     ensures two_splits { IsWholeWithin 2 (tree (bound 2 1 4 1)) }
     ensures not_one { IsWholeWithin 1 (tree (bound 2 1 4 1)) → ⊥ }
     ensures fewer_than_sides { IsWholeWithin 1 (tree_of (Nodes.Side first_contact 1 ∷ Nodes.Pending ∷ [])) }

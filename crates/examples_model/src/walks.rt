@@ -50,3 +50,8 @@ pub fn wide_from_two_to_the_62()
     ensures denominator_below { WideAt 1 (row_of (negsuc 0) below_edge) (0 ∷ []) 0 → ⊥ }
     ensures of_no_line { WideAt 1 (row_of (negsuc 0) edge) (0 ∷ []) 1 → ⊥ }
 {}
+
+/// From the basis 1, 2, which is wide itself, the walk ends before the basis 0, 1: a wide basis may begin a walk.
+pub fn a_walk_from_a_wide_start()
+    ensures { EndsWide 2 wide_rows (1 ∷ 2 ∷ []) (0 ∷ 1 ∷ []) 0 }
+{}

@@ -57,7 +57,9 @@ fn add_facet(
     printer: &Printer,
 ) -> Result<(), AllocError>
     requires { IsNearFacet f.now }
-    ensures { OnOk result (found.new.items ≡ found.old.items ++ spots printer.now.grain printer.now.margin (facet_corners slab.now.low slab.now.high f.now)) }
+    ensures { OnOk result (found.new.items
+        ≡ found.old.items ++ spots printer.now.grain printer.now.margin
+        (facet_corners slab.now.low slab.now.high f.now)) }
 {
     if misses(f, slab) {
         return Ok(());
@@ -103,7 +105,8 @@ fn standing_spots(
     printer: &Printer,
 ) -> Result<Vec<Spot>, NoMemory>
     requires { All IsNearFacet facets.now }
-    ensures stand { IfOk result (λ found. StandsFor (spots printer.now.grain printer.now.margin (flat_map (facet_corners slab.now.low slab.now.high) facets.now)) found.items) }
+    ensures stand { IfOk result (λ found. StandsFor (spots printer.now.grain printer.now.margin
+        (flat_map (facet_corners slab.now.low slab.now.high) facets.now)) found.items) }
     ensures near { IfOk result (λ found. All IsNarrow found.items) }
 {
     let mut found = Vec::new(alloc);
@@ -123,7 +126,8 @@ pub fn outline_of(
     printer: &Printer,
 ) -> Result<Vec<Spot>, NoMemory>
     requires { All IsNearFacet facets.now }
-    ensures { IfOk result (λ corners. IsOutlineOf (spots printer.now.grain printer.now.margin (flat_map (facet_corners slab.now.low slab.now.high) facets.now)) corners.items) }
+    ensures { IfOk result (λ corners. IsOutlineOf (spots printer.now.grain printer.now.margin
+        (flat_map (facet_corners slab.now.low slab.now.high) facets.now)) corners.items) }
 {
     let found = standing_spots(alloc, facets, slab, printer)?;
     Ok(hull(alloc, found.as_slice())?)

@@ -50,7 +50,8 @@ fn add_above(
     band: u32,
 ) -> Result<(), AllocError>
     requires { corners.items ≢ [] }
-    ensures { OnOk result ((S : ℕ → List Spot) → AreRunsOf S band (zones.old.items ++ below ∷ []) → IsOutlineOf (S band) corners.items → AreRunsOf S (band + 1) zones.new.items) }
+    ensures { OnOk result ((S : ℕ → List Spot) → AreRunsOf S band (zones.old.items ++ below ∷ [])
+        → IsOutlineOf (S band) corners.items → AreRunsOf S (band + 1) zones.new.items) }
 {
     if goes_on(&below, corners.as_slice(), band) {
         zones.push(Zone {
@@ -82,7 +83,8 @@ fn take_last(zones: &mut Vec<Zone>) -> Option<Zone>
 
 // Adds a band to the zones of the bands below it. A band without outline lies in none.
 fn add_band(zones: &mut Vec<Zone>, corners: Vec<Spot>, band: u32) -> Result<(), AllocError>
-    ensures { OnOk result ((S : ℕ → List Spot) → AreRunsOf S band zones.old.items → IsOutlineOf (S band) corners.items → AreRunsOf S (band + 1) zones.new.items) }
+    ensures { OnOk result ((S : ℕ → List Spot) → AreRunsOf S band zones.old.items
+        → IsOutlineOf (S band) corners.items → AreRunsOf S (band + 1) zones.new.items) }
 {
     if are_none(corners.as_slice()) {
         return Ok(());

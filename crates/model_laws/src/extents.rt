@@ -15,8 +15,10 @@ pub fn smaller_region_lies_in_larger()
 /// A plan that is valid at an extent is so at each larger one of the grid. So a plan at the next extent, and none at this one, show which
 /// extent is the least.
 pub fn one_extent_below_decides()
-    ensures larger { (scene : Scene) (e f : ℕ) (plan : Plan) → pos 1 ≤ℤ scene.width → pos 1 ≤ℤ scene.depth → e ≤ f → f ≤ scene.grid
+    ensures larger { (scene : Scene) (e f : ℕ) (plan : Plan) → pos 1 ≤ℤ scene.width
+        → pos 1 ≤ℤ scene.depth → e ≤ f → f ≤ scene.grid
         → Valid scene e plan → Valid scene f plan }
-    ensures least { (scene : Scene) (e : ℕ) (plan : Plan) → pos 1 ≤ℤ scene.width → pos 1 ≤ℤ scene.depth → Valid scene (e + 1) plan
+    ensures least { (scene : Scene) (e : ℕ) (plan : Plan) → pos 1 ≤ℤ scene.width
+        → pos 1 ≤ℤ scene.depth → Valid scene (e + 1) plan
         → ((other : Plan) → Valid scene e other → ⊥) → Least scene (e + 1) }
 {}

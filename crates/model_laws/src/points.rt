@@ -16,14 +16,17 @@ pub fn a_mean_is_of_a_point()
 
 /// So are collisions: what overlaps, or collides, at two points does so at the same points over other denominators.
 pub fn collisions_are_at_points()
-    ensures overlap { (A B F : List Spot) (p r p' r' : Point) → Overlap A B F p r → IsPoint p' → IsPoint r' → SamePoint p p' → SamePoint r r'
+    ensures overlap { (A B F : List Spot) (p r p' r' : Point) → Overlap A B F p r → IsPoint p'
+        → IsPoint r' → SamePoint p p' → SamePoint r r'
         → Overlap A B F p' r' }
-    ensures collides { (scene : Scene) (i j : ℕ) (p r p' r' : Point) → Collides scene i p j r → IsPoint p' → IsPoint r' → SamePoint p p'
+    ensures collides { (scene : Scene) (i j : ℕ) (p r p' r' : Point) → Collides scene i p j r
+        → IsPoint p' → IsPoint r' → SamePoint p p'
         → SamePoint r r' → Collides scene i p' j r' }
 {}
 
 /// And so is what is valid: a plan over another scale, of at least 1, that moves the same objects to the same points in the same order
 /// is valid where this one is.
 pub fn a_plan_is_valid_over_another_scale()
-    ensures { (scene : Scene) (e : ℕ) (plan other : Plan) → pos 1 ≤ℤ other.scale → SamePlaces plan other → Valid scene e plan → Valid scene e other }
+    ensures { (scene : Scene) (e : ℕ) (plan other : Plan) → pos 1 ≤ℤ other.scale
+        → SamePlaces plan other → Valid scene e plan → Valid scene e other }
 {}

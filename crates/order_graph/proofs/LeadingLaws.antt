@@ -3,7 +3,7 @@ use Rattle.std.proofs.Common.{◌≡◌, ◌≢◌, ◌↔◌, ℕ, ◌+◌, ◌
 use Rattle.std.proofs.lemmas.Bool.{false≢true, cases_eq, cases_lt, eq-eqb, ne_eqb}
 use Rattle.std.proofs.lemmas.List.{get_or_past, length_push, drop_at, take_at}
 use Rattle.std.proofs.lemmas.List.Elements.{Contains-push}
-use Rattle.order_graph.specs.Orders.{IsOnce, IsOrdered, Leads, EachNext, IsSimpleCycle, ClosesCycle}
+use Rattle.object_orders.specs.Orders.{IsOnce, IsOrdered, Leads, EachNext, IsSimpleCycle, ClosesCycle}
 use Rattle.order_graph.specs.Sets.{Has, IsBefore, AreNoted}
 use Rattle.order_graph.specs.Searches.{IsNext, IsWalk, ComesRound, IsKnown, AllKnown, LeadsOn}
 use Rattle.order_graph.proofs.Lists.{once_turned}

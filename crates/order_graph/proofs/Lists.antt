@@ -10,7 +10,7 @@ use Rattle.std.proofs.lemmas.List.Quantifiers.{all_pairs_push}
 use Rattle.std.proofs.lemmas.Map.Made.{IsDistinct-from_AllPairs}
 use Rattle.std.proofs.lemmas.Map.Steps.{length-le_from_distinct_below, le-length_from_below}
 use Rattle.std.proofs.lemmas.Map.Views.{Contains-from_any, list_any-from_Contains}
-use Rattle.order_graph.specs.Orders.{IsOnce}
+use Rattle.object_orders.specs.Orders.{IsOnce}
 
 -- different numbers below n are at most n
 pub few : (n : ℕ) (xs : List ℕ) → IsOnce xs → All (λ k. k < n) xs → length xs ≤ n

@@ -3,7 +3,7 @@ use Rattle.std.proofs.Common.{◌≡◌, ◌≢◌, ◌↔◌, ℕ, zero, suc, �
 use Rattle.std.proofs.lemmas.Bool.{cases_eq, cases_lt}
 use Rattle.std.proofs.lemmas.List.{get_or_append_left, get_or_at, get_or-take, length_push, take-append-le, take_at, take_more, take-take}
 use Rattle.std.proofs.lemmas.List.Elements.{All-append, All-contains, Contains-append_left, Contains-push, Contains-push_cases}
-use Rattle.order_graph.specs.Orders.{IsAmong, AreAmong, IsOrdered}
+use Rattle.object_orders.specs.Orders.{IsAmong, AreAmong, IsOrdered}
 use Rattle.order_graph.specs.Sets.{Has, IsBefore, AreBefore, AreNoted, AreFormer}
 use Rattle.order_graph.proofs.SetLaws.{nothing}
 

@@ -4,7 +4,7 @@ use Rattle.std.proofs.Common.{◌≡◌, ◌≢◌, ℕ, suc, ◌<◌, ◌≤◌
 use Rattle.std.proofs.lemmas.Bool.{false≢true, cases_order}
 use Rattle.std.proofs.lemmas.List.{take-append-drop}
 use Rattle.std.proofs.lemmas.List.Elements.{All-nil, All-contains, All-contains_itself, All-weaker, All-push, All-take, Contains-append_left, Contains-push_cases}
-use Rattle.order_graph.specs.Orders.{IsAmong, IsGraph, Leads, IsOnce, IsWay, IsSimpleCycle, ClosesCycle, StandsBefore, IsOrder, HasCycle, HasOrder}
+use Rattle.object_orders.specs.Orders.{IsAmong, IsGraph, Leads, IsOnce, IsWay, IsSimpleCycle, ClosesCycle, StandsBefore, IsOrder, HasCycle, HasOrder}
 use Rattle.order_graph.proofs.Lists.{few, full}
 use Rattle.order_graph.proofs.NoteLaws.{other_first}
 

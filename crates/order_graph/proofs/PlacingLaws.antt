@@ -4,7 +4,7 @@ use Rattle.std.proofs.lemmas.Bool.{cases_eq, cases_lt, false≢true}
 use Rattle.std.proofs.lemmas.List.{length_push, length-reverse, get_or_append_left, get_or_at, get_or_default}
 use Rattle.std.proofs.lemmas.List.Elements.{Contains-get_or, All-contains_itself, All-weaker, Contains-append_left, Contains-push, Contains-push_cases}
 use Rattle.std.proofs.lemmas.Nat.Bits.{bit_at_above}
-use Rattle.order_graph.specs.Orders.{IsAmong, IsOnce, IsOrdered, EachNext, IsSimpleCycle, IsOrder, StandsBefore}
+use Rattle.object_orders.specs.Orders.{IsAmong, IsOnce, IsOrdered, EachNext, IsSimpleCycle, IsOrder, StandsBefore}
 use Rattle.order_graph.specs.Sets.{Has, IsBefore, AreNoted}
 use Rattle.order_graph.specs.Searches.{IsNext, IsNextBelow, IsWalk, ComesRound, IsFree, NoneFree, LeadsBack}
 use Rattle.order_graph.proofs.Lists.{room, once_push, once_reverse}

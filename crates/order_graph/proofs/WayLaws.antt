@@ -2,7 +2,7 @@
 use Rattle.std.proofs.Common.{◌≡◌, ℕ, zero, suc, ◌+◌, ◌<◌, List, [], ◌∷◌, ◌++◌, length, get_or, take, drop, reverse, Option, subst, refl, sym, ◌∙◌, ap, arith}
 use Rattle.std.proofs.lemmas.List.{drop_more, drop-append-le, reverse-append}
 use Rattle.std.proofs.lemmas.Grind.{reverse_onto}
-use Rattle.order_graph.specs.Orders.{IsOnce, EachNext}
+use Rattle.object_orders.specs.Orders.{IsOnce, EachNext}
 use Rattle.order_graph.specs.Searches.{IsNext, ComesRound}
 use Rattle.order_graph.proofs.Lists.{once_drop}
 

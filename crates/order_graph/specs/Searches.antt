@@ -15,7 +15,7 @@
 --   NoneFree before left                before each object that is left another one is ordered
 --   LeadsBack before left next          for each object that is left the next one is left and ordered before it
 use Rattle.std.specs.Prelude.{◌≡◌, ◌≢◌, ℕ, ◌<◌, List, [], ◌∷◌, ◌++◌, slice_index, slice_index_or, Option, Some, None, IsSome}
-use Rattle.order_graph.specs.Orders.{IsOnce, EachNext}
+use Rattle.object_orders.specs.Orders.{IsOnce, EachNext}
 use Rattle.order_graph.specs.Sets.{Has, IsBefore}
 use Rattle.order_graph.specs.declared.walk.Trail.{Trail}
 use Rattle.order_graph.specs.declared.walk.Trail.TheVariants as Trails

@@ -7,7 +7,7 @@
 --   AreFormer held former            for each order its second object's set as it was before that order was held
 use Rattle.std.specs.Prelude.{◌≡◌, ◌↔◌, ℕ, ◌<◌, List, length, slice_index_or, take}
 use Rattle.std.specs.Int.{bit_at}
-use Rattle.order_graph.specs.Orders.{IsOrdered}
+use Rattle.object_orders.specs.Orders.{IsOrdered}
 
 abbrev pub Has : ℕ → ℕ → Type 0
 Has set k = bit_at set k ≡ 1

@@ -1,5 +1,5 @@
 ghost use Rattle.std.specs.Prelude.{◌≡◌, ◌≢◌, ◌↔◌, ℕ, ◌-◌, ◌<◌, ◌≤◌, List, [], ◌∷◌, ◌++◌, length, take, IsOk, IsErr, IfOk, IfErr, OnOk, OnErr};
-ghost use Rattle.order_graph.specs.Orders.{Graph, IsGraph, AreAmong, Leads, ClosesCycle, IsSimpleCycle, HasCycle, IsOrder, HasOrder};
+ghost use Rattle.object_orders.specs.Orders.{Graph, IsGraph, AreAmong, Leads, ClosesCycle, IsSimpleCycle, HasCycle, IsOrder, HasOrder};
 ghost use Rattle.order_graph.specs.Sets.{AreNoted, AreFormer};
 
 use crate::answers::{Cycle, Order};

@@ -1,5 +1,5 @@
 ghost use Rattle.std.specs.Prelude.{◌≡◌, ◌≢◌, ◌↔◌, ℕ, ◌<◌, List, [], ◌∷◌, IsTrue, MatchOption};
-ghost use Rattle.order_graph.specs.Orders.{Leads, ClosesCycle};
+ghost use Rattle.object_orders.specs.Orders.{Leads, ClosesCycle};
 ghost use Rattle.order_graph.specs.Sets.{AreNoted};
 ghost use Rattle.order_graph.specs.Searches.{IsKnown, AllKnown, LeadsOn};
 

@@ -6,7 +6,7 @@
 //!
 //! Each contract says both sides. `add` refuses an order exactly where the orders held lead the other way (`Leads`);
 //! `complete` answers an order (`IsOrder`) exactly where there is one, and a cycle (`IsSimpleCycle`) exactly where
-//! there is one. These words stand in `specs/Orders.antt`. No call takes memory, and the crate stands on no other.
+//! there is one. These words stand in `object_orders`. No call takes memory.
 //!
 //! What comes before an object is a set of 16 bits (`specs/Sets.antt`), so the cost doesn't grow with the orders held.
 //!

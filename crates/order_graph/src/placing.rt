@@ -1,5 +1,5 @@
 ghost use Rattle.std.specs.Prelude.{◌≡◌, ◌≢◌, ℕ, ◌<◌, ◌≤◌, List, ◌++◌, MatchOption, MatchResult};
-ghost use Rattle.order_graph.specs.Orders.{AreAmong, IsAmong, IsOrder, IsSimpleCycle};
+ghost use Rattle.object_orders.specs.Orders.{AreAmong, IsAmong, IsOrder, IsSimpleCycle};
 ghost use Rattle.order_graph.specs.Sets.{Has, IsBefore, AreNoted};
 ghost use Rattle.order_graph.specs.Searches.{IsFree, NoneFree, LeadsBack};
 

@@ -41,11 +41,7 @@ pub fn edge(from: &Spot, to: &Spot, turned: bool) -> Dir
     ensures short { IsShort result }
 {
     let dir = outward(from, to);
-    if turned {
-        opposite(&dir)
-    } else {
-        dir
-    }
+    if turned { opposite(&dir) } else { dir }
 }
 
 /// The last corner.
@@ -59,7 +55,12 @@ pub fn last_corner(corners: &[Spot]) -> Spot
 }
 
 /// The first edge of the outline after a direction, or the best so far if it comes before.
-pub fn first_edge_after(corners: &[Spot], turned: bool, after: &Option<Dir>, best: Option<Dir>) -> Option<Dir>
+pub fn first_edge_after(
+    corners: &[Spot],
+    turned: bool,
+    after: &Option<Dir>,
+    best: Option<Dir>,
+) -> Option<Dir>
     requires near { All IsNarrow corners.now }
     requires best { IsShortOption best }
     ensures value { result ≡ first_after after.now best (edges_if turned corners.now) }

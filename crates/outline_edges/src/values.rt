@@ -69,7 +69,10 @@ pub fn value_at(dir: &Dir, at: &RatPoint) -> i128
     requires at { FitsProducts at.now }
     ensures { result ≡ value dir.now at.now }
 {
-    sum(product(i128::from(dir.x), at.x), product(i128::from(dir.y), at.y))
+    sum(
+        product(i128::from(dir.x), at.x),
+        product(i128::from(dir.y), at.y),
+    )
 }
 
 /// A value along a direction, times the denominator of a point.

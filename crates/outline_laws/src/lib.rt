@@ -64,7 +64,7 @@ pub fn sides_of_a_difference_are_those_of_its_lists()
 pub fn greatest_values_of_a_difference_add_up()
     ensures { (dir : Dir) (A B F : List Spot) → 1 ≤ length A → 1 ≤ length B → 1 ≤ length F
         → greatest_along dir (difference A B F)
-            ≡ (greatest_along dir A +ℤ greatest_along (back dir) B) +ℤ greatest_along (back dir) F }
+        ≡ (greatest_along dir A +ℤ greatest_along (back dir) B) +ℤ greatest_along (back dir) F }
 {}
 
 /// A difference has area where its first list has.

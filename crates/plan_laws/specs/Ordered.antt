@@ -8,7 +8,7 @@
 --   Keeps path rank              by rank, each order of the path rises
 --   IsClear job e at rank        the objects have ranks of their own, and none collides at the point with one of a higher rank
 use Rattle.std.specs.Prelude.{◌≢◌, ℕ, ◌<◌, List, [], ◌∷◌, length, map, AllPairs, Contains}
-use Rattle.order_graph.specs.Orders.{IsOrder}
+use Rattle.object_orders.specs.Orders.{IsOrder}
 use Rattle.plan_laws.specs.Inside.{place_at}
 use Rattle.seq_model.specs.Splits.{Values, IsOn, CollidesAt}
 use Rattle.seq_model.specs.declared.job.Job.{Job}

@@ -1,7 +1,7 @@
 //! Points of a system, and what lies in a region.
 
 ghost use Rattle.std.specs.Prelude.{◌≡◌, ◌*◌, ◌<◌, ◌≤◌, ℕ, ℤ, pos, ◌≤ℤ◌, List, [], length, ◌↔◌};
-ghost use Rattle.order_graph.specs.Orders.{IsOrder};
+ghost use Rattle.object_orders.specs.Orders.{IsOrder};
 ghost use Rattle.plan_laws.specs.Inside.{IsBounded, AreInside};
 ghost use Rattle.plan_laws.specs.Ordered.{AreApart, OrderedPoint, Keeps, IsClear, plan_of};
 ghost use Rattle.seq_model.specs.Jobs.{bands_of, object_at, scene_of_job};

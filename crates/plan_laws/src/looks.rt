@@ -1,7 +1,7 @@
 //! What follows from the orders that hold at a point of a path.
 
 ghost use Rattle.std.specs.Prelude.{ℕ, ◌≤◌, List, ◌++◌, length, ◌⊎◌};
-ghost use Rattle.order_graph.specs.Orders.{AreAmong, IsOrder, IsSimpleCycle};
+ghost use Rattle.object_orders.specs.Orders.{AreAmong, IsOrder, IsSimpleCycle};
 ghost use Rattle.plan_laws.specs.Looking.{OnPath, AreLooked, AreForced, EarnsAPair, Causes};
 ghost use Rattle.plan_laws.specs.Ordered.{orders_of, plan_of};
 ghost use Rattle.seq_model.specs.Jobs.{scene_of_job};

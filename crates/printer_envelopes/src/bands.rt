@@ -86,6 +86,9 @@ pub fn zones_meet(part: &Part, later: &Zone, earlier: &Zone) -> bool
 
 /// Zones that meet are zones of which some bands meet, where their bands and those of the part are in order.
 pub fn some_bands_meet()
-    ensures if_zones_meet { (earlier later : Zone) (part : Part) → earlier.first ≤ earlier.last → later.first ≤ later.last → ForSome part.hi (λ hi. part.lo ≤ hi) → ZonesMeet earlier part later → SomeBandsMeet earlier part later }
-    ensures only_then { (earlier later : Zone) (part : Part) → SomeBandsMeet earlier part later → ZonesMeet earlier part later }
+    ensures if_zones_meet { (earlier later : Zone) (part : Part) → earlier.first ≤ earlier.last
+        → later.first ≤ later.last → ForSome part.hi (λ hi. part.lo ≤ hi)
+        → ZonesMeet earlier part later → SomeBandsMeet earlier part later }
+    ensures only_then { (earlier later : Zone) (part : Part) → SomeBandsMeet earlier part later
+        → ZonesMeet earlier part later }
 {}

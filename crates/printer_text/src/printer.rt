@@ -65,7 +65,8 @@ fn read_parts(alloc: Global, sizes: &Sizes, listed: &[Value]) -> Result<Vec<Part
     requires sizes { AreSizes sizes.now }
     requires few { length listed.now ≤ 12 }
     ensures ok { IfOk result (λ parts. ArePartsOf sizes.now (items_view listed.now) parts.items) }
-    ensures err { IfErr result (λ e. (e ≡ Prn.NoMemory) ⊎ (parts_behind 1 sizes.now (tip ∷ []) (items_view listed.now) ≡ Err e)) }
+    ensures err { IfErr result (λ e. (e ≡ Prn.NoMemory)
+        ⊎ (parts_behind 1 sizes.now (tip ∷ []) (items_view listed.now) ≡ Err e)) }
 {
     let Ok(mut parts) = tip_alone(alloc) else {
         return Err(Prn::NoMemory);
@@ -104,7 +105,8 @@ fn printer_with(sizes: Sizes, parts: Items<Part>) -> Printer
 // The sizes and the listed parts of a top table that has no other key.
 #[tactic(auto, unfolding(crate::specs::Printers::top_in))]
 fn top_alone<'a>(alloc: Global, table: &'a Table) -> Result<(Sizes, Option<&'a [Value]>), Prn>
-    ensures ok { IfOk result (λ top. top_in (table_view table.now) ≡ Ok (said_top top.0 (option_map (λ values. items_view values.now) top.1))) }
+    ensures ok { IfOk result (λ top. top_in (table_view table.now)
+        ≡ Ok (said_top top.0 (option_map (λ values. items_view values.now) top.1))) }
     ensures ranged { IfOk result (λ top. AreSizes top.0) }
     ensures few { IfOk result (λ top. IfSome top.1 (λ values. length values.now ≤ 12)) }
     ensures err { IfErr result (λ e. (e ≡ Prn.NoMemory) ⊎ (top_in (table_view table.now) ≡ Err e)) }
@@ -131,7 +133,9 @@ fn top_alone<'a>(alloc: Global, table: &'a Table) -> Result<(Sizes, Option<&'a [
 // The printer of a table.
 #[tactic(auto, unfolding(crate::specs::Printers::description_in))]
 fn described(alloc: Global, table: &Table) -> Result<Printer, Prn>
-    ensures ok { IfOk result (λ printer. (parts : List Part) × (description_in (table_view table.now) ≡ Ok (description_of printer parts)) × AreKept parts printer.parts) }
+    ensures ok { IfOk result (λ printer. (parts : List Part)
+        × (description_in (table_view table.now) ≡ Ok (description_of printer parts))
+        × AreKept parts printer.parts) }
     ensures err { IfErr result (λ e. (e ≡ Prn.NoMemory) ⊎ (description_in (table_view table.now) ≡ Err e)) }
 {
     let (sizes, listed) = top_alone(alloc, table)?;
@@ -158,7 +162,10 @@ pub fn read_printer(alloc: Global, bytes: &[u8]) -> Result<Printer, Prn>
 
 /// No bytes have two descriptions, or two causes, or a description and a cause.
 pub fn one_description()
-    ensures description { (bytes : List ℕ) (d e : Description) → DescribedBy bytes d → DescribedBy bytes e → d ≡ e }
-    ensures refusal { (bytes : List ℕ) (why other : Prn) → IsRefusedPrinter bytes why → IsRefusedPrinter bytes other → why ≡ other }
-    ensures not_both { (bytes : List ℕ) (d : Description) (why : Prn) → DescribedBy bytes d → IsRefusedPrinter bytes why → ⊥ }
+    ensures description { (bytes : List ℕ) (d e : Description) → DescribedBy bytes d
+        → DescribedBy bytes e → d ≡ e }
+    ensures refusal { (bytes : List ℕ) (why other : Prn) → IsRefusedPrinter bytes why
+        → IsRefusedPrinter bytes other → why ≡ other }
+    ensures not_both { (bytes : List ℕ) (d : Description) (why : Prn) → DescribedBy bytes d
+        → IsRefusedPrinter bytes why → ⊥ }
 {}

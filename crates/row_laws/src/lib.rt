@@ -2,7 +2,7 @@
 //!
 //! What a form, a wide row and a walk are stands in words in `seq_model` (`Dictionaries`, `Walks`). The calls here do nothing: each is
 //! a law that its contract states. A basis has at most one form, so that "the form", "the walk" and "wide" mean one thing, and what is
-//! computed of a form's lines (`specs/Computed.antt`) is the step of the walk in words. The lemmas are in `specs/` too: a solution of few
+//! computed of a form's lines (`specs/Computed.antt`) is the step of the walk in words. The lemmas are in `specs/Laws`: a solution of few
 //! equations (`Kernel`), independent variables (`Independence`), one form (`OneForm`), the lines of a basis (`Lines`), where it is wide
 //! (`Wide`), its step (`Pivots`) and one walk (`OneWalk`).
 #![tactic(auto)]
@@ -15,7 +15,8 @@ ghost use Rattle.seq_model.specs.Walks.{Pivots, Stops, Walk, EndsWide};
 
 /// A basis has at most one form.
 pub fn a_basis_has_one_form_at_most()
-    ensures { (vars : ℕ) (rows : List Row) (basis : List ℕ) (f g : Form vars rows basis) → (f.d ≡ g.d) × (f.lines ≡ g.lines) }
+    ensures { (vars : ℕ) (rows : List Row) (basis : List ℕ) (f g : Form vars rows basis)
+        → (f.d ≡ g.d) × (f.lines ≡ g.lines) }
 {}
 
 /// The form of a basis decides where it is wide.
@@ -26,12 +27,14 @@ pub fn a_form_decides_where_it_is_wide()
 
 /// A start has at most one walk.
 pub fn a_start_has_one_walk_at_most()
-    ensures { (vars : ℕ) (rows : List Row) (start : List ℕ) (bases others : List (List ℕ)) → Walk vars rows start bases → Walk vars rows start others → bases ≡ others }
+    ensures { (vars : ℕ) (rows : List Row) (start : List ℕ) (bases others : List (List ℕ))
+        → Walk vars rows start bases → Walk vars rows start others → bases ≡ others }
 {}
 
 /// The walk from a start ends before one wide basis at most, and one row of it is the least at which it is wide.
 pub fn a_walk_ends_before_one_wide_basis_at_most()
-    ensures { (vars : ℕ) (rows : List Row) (start basis other : List ℕ) (row another : ℕ) → EndsWide vars rows start basis row
+    ensures { (vars : ℕ) (rows : List Row) (start basis other : List ℕ) (row another : ℕ)
+        → EndsWide vars rows start basis row
         → EndsWide vars rows start other another → (basis ≡ other) × (row ≡ another) }
 {}
 

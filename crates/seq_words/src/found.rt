@@ -20,15 +20,19 @@ pub(crate) fn found<'a>(
 ) -> Result<ArgMatches<'a>, Words>
     requires { is_simple_and_free (simple_command name.now usage.now) ≡ true }
     ensures ok { IfOk result (λ m. rows_by (simple_command name.entry.now usage.now) (texts words.entry.now) ≡ Some (rows_of (found_of m))) }
-    ensures err { IfErr result (λ e. (e ≡ Words.NoMemory) ⊎ ((e ≡ Words.Usage) × (rows_by (simple_command name.entry.now usage.now) (texts words.entry.now) ≡ None))) }
+    ensures err { IfErr result (λ e. (e ≡ Words.NoMemory)
+        ⊎ ((e ≡ Words.Usage)
+        × (rows_by (simple_command name.entry.now usage.now) (texts words.entry.now) ≡ None))) }
 {
     parsed(parser(alloc, name, usage)?, words)
 }
 
 fn parsed<'a>(command: Parser<'a>, words: &'a [String]) -> Result<ArgMatches<'a>, Words>
     requires { is_simple_and_free (app_of command) ≡ true }
-    ensures ok { IfOk result (λ m. rows_by (app_of command.entry) (texts words.entry.now) ≡ Some (rows_of (found_of m))) }
-    ensures err { IfErr result (λ e. (e ≡ Words.NoMemory) ⊎ ((e ≡ Words.Usage) × (rows_by (app_of command.entry) (texts words.entry.now) ≡ None))) }
+    ensures ok { IfOk result (λ m. rows_by (app_of command.entry) (texts words.entry.now)
+        ≡ Some (rows_of (found_of m))) }
+    ensures err { IfErr result (λ e. (e ≡ Words.NoMemory)
+        ⊎ ((e ≡ Words.Usage) × (rows_by (app_of command.entry) (texts words.entry.now) ≡ None))) }
 {
     match command.try_get_matches_from(words) {
         Ok(matches) => Ok(matches),

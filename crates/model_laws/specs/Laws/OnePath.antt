@@ -4,13 +4,17 @@
 --   one_left          nodes that are read from the same paths leave the same paths
 --   one_path          so a node stands at one path
 --   stands_at_path    and a node of an open tree stands at a path of the job
-use Rattle.std.proofs.Common.{◌≡◌, ℕ, zero, suc, List, [], ◌∷◌, ◌++◌, All, map, take, get_or, sym, ap, subst, ◌∙◌}
+--   good_at           what holds of each node at its path holds of node k
+--   open_node, certified_node   so node k of an open tree is sound and earned, that of a certificate closed and grounded
+use Rattle.std.proofs.Common.{◌≡◌, Some, ℕ, zero, suc, List, [], ◌∷◌, ◌++◌, All, map, take, get_or, sym, ap, subst, ◌∙◌}
 use Rattle.std.proofs.lemmas.List.Elements.{All-nil, All-cons, All-head, All-tail, All-append}
+use Rattle.std.proofs.lemmas.Option.{same_Some, none-some}
+use Rattle.std.specs.Prelude.{slice_get}
 use Rattle.model_laws.specs.Laws.OneList.{one_list_of_sides}
 use Rattle.model_laws.specs.Laws.Reading.{no_choice, children_are_paths}
 use Rattle.seq_model.specs.Contacts.{points_of}
-use Rattle.seq_model.specs.Splits.{OpenTree, StandsAt}
-use Rattle.seq_model.specs.Trees.{also, IsPath, AreChildren, IsSoundNode, Reads}
+use Rattle.seq_model.specs.Splits.{Earned, Grounded, IsCertificate, OpenTree, StandsAt}
+use Rattle.seq_model.specs.Trees.{also, IsPath, AreChildren, IsSoundNode, IsClosed, Reads}
 use Rattle.seq_model.specs.declared.job.Job.{Job}
 use Rattle.seq_model.specs.declared.tree.Choice.{Choice}
 use Rattle.seq_model.specs.declared.tree.Choice.TheVariants as Choices
@@ -49,3 +53,24 @@ stands_below job e G sound (node ∷ nodes) (suc k) (p ∷ todo) left rest path 
 pub stands_at_path : (job : Job) (e : ℕ) (tree : Tree) (k : ℕ) (path : List Choice) → OpenTree job e tree → StandsAt job tree.nodes k path → IsPath job path
 stands_at_path job e tree k path unfinished s =
     stands_below job e _ (λ at node g. g.0) tree.nodes k ([] ∷ []) [] s.0 path (All-cons (IsPath job) [] [] (no_choice job) (All-nil (IsPath job))) unfinished.each s.1
+
+-- ---- what holds of each node of a tree
+pub good_at : (job : Job) (G : List Choice → Node → Type 0) (nodes : List Node) (k : ℕ) (todo left rest : List (List Choice)) (path : List Choice) (node : Node)
+    → Reads job G todo nodes left → Reads job (λ at node. Unit {0}) todo (take k nodes) (path ∷ rest) → slice_get nodes k ≡ Some node → G path node
+good_at job G [] zero todo left rest path node r s e = absurd (none-some node e)
+good_at job G [] (suc k) todo left rest path node r s e = absurd (none-some node e)
+good_at job G (n ∷ nodes) zero [] left rest path node r s e = absurd r
+good_at job G (n ∷ nodes) zero (p ∷ todo) left rest path node r s e =
+    subst (λ q. G q node) (ap (λ l. get_or l 0 p) s) (subst (G p) (same_Some n node e) r.0)
+good_at job G (n ∷ nodes) (suc k) [] left rest path node r s e = absurd r
+good_at job G (n ∷ nodes) (suc k) (p ∷ todo) left rest path node r s e =
+    good_at job G nodes k (r.1 ++ todo) left rest path node r.3
+    (subst (λ ps. Reads job (λ at node. Unit {0}) (ps ++ todo) (take k nodes) (path ∷ rest)) (children_same job p n s.1 r.1 s.2 r.2) s.3) e
+
+pub open_node : (job : Job) (e : ℕ) (tree : Tree) (k : ℕ) (path : List Choice) (node : Node) → OpenTree job e tree → StandsAt job tree.nodes k path → slice_get tree.nodes k ≡ Some node
+    → IsSoundNode job e path node × Earned job e path node
+open_node job e tree k path node unfinished s here = good_at job _ tree.nodes k ([] ∷ []) [] s.0 path node unfinished.each s.1 here
+
+pub certified_node : (job : Job) (e : ℕ) (tree : Tree) (k : ℕ) (path : List Choice) (node : Node) → IsCertificate job e tree → StandsAt job tree.nodes k path → slice_get tree.nodes k ≡ Some node
+    → (IsSoundNode job e path node × IsClosed node) × Grounded job e path node
+certified_node job e tree k path node certificate s here = good_at job _ tree.nodes k ([] ∷ []) [] s.0 path node certificate s.1 here

@@ -1,5 +1,5 @@
 ghost use Rattle.std.specs.Prelude.{◌≡◌, ◌↔◌, ◌≤◌, length, IsTrue, IfOk};
-ghost use Rattle.order_graph.specs.Orders.{AreAmong};
+ghost use Rattle.object_orders.specs.Orders.{AreAmong};
 
 use super::*;
 

@@ -37,7 +37,6 @@ use Rattle.outline_laws.specs.Laws.Loops.{IsShort, edges_if, edges_plain, edges_
 use Rattle.outline_laws.specs.Laws.Differences.{area_of_difference, greatest_difference}
 use Rattle.outline_laws.specs.Laws.Around.{all_edges, sides_are, long_direction}
 
-
 -- ---- a direction and what it reduces to
 along_reduced : (l d : Dir) (r : Reduces l.x l.y d.x d.y) (s : Spot) → along l s ≡ r.k *ℤ along d s
 along_reduced l d r s = same_from (add_same (mul_same s.x r.x_is) (mul_same s.y r.y_is)) (simp expand (omega (arith, ints)))

@@ -24,7 +24,6 @@ use Rattle.outline_laws.specs.Laws.Sides.{greatest_of}
 pub use Rattle.outline_laws.specs.Laws.Loops.{back}
 use Rattle.outline_laws.specs.Laws.Edges.{same_or_apart}
 
-
 -- ---- members
 in_flat : {A B : Type 0} (f : A → List B) (x : A) (y : B) (xs : List A) → In x xs → In y (f x) → In y (flat_map f xs)
 in_flat f x y [] i j = absurd i

@@ -10,7 +10,7 @@ use Rattle.std.proofs.lemmas.List.Elements.{AllZip-push, All-contains, Contains-
 use Rattle.std.specs.List.{AllZip}
 use Rattle.plan_laws.specs.Laws.OnPath.{is_before, before_is, is_on}
 use Rattle.integer_laws.specs.Laws.Members.{In-from_contains, Contains-from_in}
-use Rattle.order_graph.specs.Orders.{IsAmong, AreAmong, IsOrder, IsSimpleCycle, EachNext, StandsBefore}
+use Rattle.object_orders.specs.Orders.{IsAmong, AreAmong, IsOrder, IsSimpleCycle, EachNext, StandsBefore}
 use Rattle.plan_laws.specs.Ordered.{plan_of, orders_of}
 use Rattle.plan_laws.specs.Laws.Ordered.{orders_hold, one_place, plan_is_valid}
 use Rattle.plan_laws.specs.Looking.{OnPath, IsLooked, AreLooked, AreForced, EarnsAPair, Causes}

@@ -14,12 +14,11 @@ use Rattle.std.proofs.lemmas.List.Sums.{sum_by-cons}
 use Rattle.std.specs.Prelude.{count_by, nat_eq}
 use Rattle.integer_laws.specs.Members.{In}
 use Rattle.integer_laws.specs.Laws.Members.{In-from_contains, Contains-from_in, In-append_left, All-in, All-from_in}
-use Rattle.order_graph.specs.Orders.{IsOrder, StandsBefore}
+use Rattle.object_orders.specs.Orders.{IsOrder, StandsBefore}
 use Rattle.plan_laws.specs.Inside.{place_at, IsInside, IsBounded}
 use Rattle.plan_laws.specs.Laws.Inside.{inside_where_bounded}
 use Rattle.plan_laws.specs.Laws.PlanPoints.{no_place, same_number, values_of, rank_for, valid_stands, on_of_plan, clear_of_plan}
-use Rattle.plan_laws.specs.Ordered.{Keeps, IsClear}
-use Rattle.plan_laws.specs.Ordered.{plan_of, AreApart, orders_of, OrderedPoint}
+use Rattle.plan_laws.specs.Ordered.{Keeps, IsClear, plan_of, AreApart, orders_of, OrderedPoint}
 use Rattle.seq_model.specs.Jobs.{scene_of_job}
 use Rattle.seq_model.specs.Points.{place_point}
 use Rattle.seq_model.specs.Scenes.{Collides, Valid}

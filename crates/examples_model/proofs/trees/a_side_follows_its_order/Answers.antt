@@ -1,3 +1,4 @@
+use Rattle.examples_model.proofs.OtherOrder.{other_order}
 use Rattle.examples_model.proofs.PathLaws.{follows, alone, too_soon, no_side, no_contact}
 use Rattle.examples_model.proofs.trees.a_side_follows_its_order.Goals as goal
 
@@ -15,3 +16,6 @@ returns-clause-no_side c = no_side
 
 pub returns-clause-no_contact : goal.returns-clause-no_contact
 returns-clause-no_contact c = no_contact
+
+pub returns-clause-other_order : goal.returns-clause-other_order
+returns-clause-other_order c = other_order

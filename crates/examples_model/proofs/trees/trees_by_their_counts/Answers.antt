@@ -1,6 +1,9 @@
 use Rattle.std.proofs.Common.{◌≤◌, [], ◌∷◌, length, refl, ap, arith, lit≤}
 use Rattle.examples_model.proofs.trees.trees_by_their_counts.Goals as goal
 
+pub returns-clause-whole : goal.returns-clause-whole
+returns-clause-whole c = (2, (lit≤ tt, (lit≤ tt, (lit≤ tt, (lit≤ tt, (lit≤ tt, (lit≤ tt, (lit≤ tt, (lit≤ tt, (lit≤ tt, (lit≤ tt, (lit≤ tt, refl))))))))))))
+
 pub returns-clause-two_splits : goal.returns-clause-two_splits
 returns-clause-two_splits c = (lit≤ tt, (lit≤ tt, (lit≤ tt, (lit≤ tt, (lit≤ tt, (lit≤ tt, (lit≤ tt, (lit≤ tt, (lit≤ tt, (lit≤ tt, (lit≤ tt, refl)))))))))))
 

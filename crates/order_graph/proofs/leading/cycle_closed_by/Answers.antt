@@ -1,6 +1,6 @@
 use Rattle.std.proofs.Common.{arith, rules, ◌≡◌, not, length, sym, ap, ◌∙◌, subst}
 use Rattle.std.proofs.lemmas.Bool.{false≢true}
-use Rattle.order_graph.specs.Orders.{ClosesCycle}
+use Rattle.object_orders.specs.Orders.{ClosesCycle}
 use Rattle.order_graph.proofs.LeadingLaws.{known_if_leads, known_within, no_ring, closes}
 use Rattle.order_graph.proofs.leading.cycle_closed_by.Goals as goal
 

@@ -1,5 +1,5 @@
 use Rattle.std.proofs.Common.{sym, subst}
-use Rattle.order_graph.specs.Orders.{IsSimpleCycle}
+use Rattle.object_orders.specs.Orders.{IsSimpleCycle}
 use Rattle.order_graph.proofs.PlacingLaws.{backwards_below, no_end, cycle_from_ring}
 use Rattle.order_graph.proofs.placing.cycle_among.Goals as goal
 

@@ -1,5 +1,5 @@
 use Rattle.std.proofs.Common.{arith, sym, subst}
-use Rattle.order_graph.specs.Orders.{IsOrder}
+use Rattle.object_orders.specs.Orders.{IsOrder}
 use Rattle.order_graph.proofs.PlacingLaws.{IsPlacing, placed_more, order_from_placing, room_left}
 use Rattle.order_graph.proofs.placing.order_of.Goals as goal
 

@@ -1,5 +1,5 @@
 use Rattle.std.proofs.Common.{◌≡◌, ◌-◌, ◌<◌, [], ◌∷◌, ◌++◌, length, get_or, All}
-use Rattle.order_graph.specs.Orders.{IsOnce, EachNext}
+use Rattle.object_orders.specs.Orders.{IsOnce, EachNext}
 use Rattle.order_graph.specs.Searches.{IsNext}
 use Rattle.order_graph.proofs.walk.follow.Given as goal
 

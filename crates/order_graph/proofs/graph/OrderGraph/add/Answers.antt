@@ -1,7 +1,7 @@
 use Rattle.std.proofs.Common.{arith, rules, ◌≡◌, ◌<◌, ◌∷◌, [], ◌++◌, ◌+◌, length, refl, get_or, set, take, ap, sym, subst, length-take}
 use Rattle.std.proofs.lemmas.Bool.{false≢true}
 use Rattle.std.proofs.lemmas.List.{take_more_set}
-use Rattle.order_graph.specs.Orders.{IsGraph}
+use Rattle.object_orders.specs.Orders.{IsGraph}
 use Rattle.order_graph.specs.Sets.{AreNoted, AreFormer}
 use Rattle.order_graph.proofs.OrderLaws.{leads_if_closes, graph_more}
 use Rattle.order_graph.proofs.NoteLaws.{note_more, former_more}

@@ -1,5 +1,5 @@
 use Rattle.std.proofs.Common.{◌≡◌, take, ◌++◌, sym, subst, ap}
-use Rattle.order_graph.specs.Orders.{AreAmong, IsOrder, IsSimpleCycle}
+use Rattle.object_orders.specs.Orders.{AreAmong, IsOrder, IsSimpleCycle}
 use Rattle.order_graph.proofs.OrderLaws.{if_ok, if_err, order_exactly, cycle_exactly, order_whole}
 use Rattle.order_graph.proofs.NoteLaws.{all_among, before_among}
 use Rattle.order_graph.proofs.graph.OrderGraph.complete.Goals as goal

@@ -1,6 +1,6 @@
 use Rattle.std.proofs.Common.{arith, rules, ◌≡◌, ◌+◌, ◌-◌, length, take, subst, ap, length-take}
 use Rattle.std.proofs.lemmas.List.{take-take}
-use Rattle.order_graph.specs.Orders.{IsGraph}
+use Rattle.object_orders.specs.Orders.{IsGraph}
 use Rattle.order_graph.proofs.OrderLaws.{graph_fewer}
 use Rattle.order_graph.proofs.NoteLaws.{former_fewer, last_among, last_undone}
 use Rattle.order_graph.proofs.graph.OrderGraph.undo.Goals as goal
