@@ -5,6 +5,7 @@ pub mod Covering
 pub mod FewSides
 pub mod Gaps
 pub mod MostSides
+pub mod NextSides
 pub mod Opened
 pub mod Places
 pub mod Refuting

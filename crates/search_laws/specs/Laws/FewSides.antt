@@ -10,9 +10,9 @@ use Rattle.std.proofs.lemmas.Bool.{eqb-true, eq-eqb}
 use Rattle.std.proofs.lemmas.Int.{ints}
 use Rattle.std.proofs.lemmas.List.{length-map, get_or_default}
 use Rattle.std.proofs.lemmas.List.Elements.{All-head, All-tail}
-use Rattle.outline_laws.specs.Edges.{last_of}
-use Rattle.outline_laws.specs.Edges.{all_edges}
-use Rattle.outline_laws.specs.Laws.Around.{AreOutlines, sides_are}
+use Rattle.outline_laws.specs.Edges.{last_of, all_edges, raws, edges_of, Across, back}
+use Rattle.outline_laws.specs.Outlines.{AreOutlines}
+use Rattle.outline_laws.specs.Laws.Around.{sides_are}
 use Rattle.integer_laws.specs.Divisors.{Reduces}
 use Rattle.integer_laws.specs.Laws.Divisors.{reduced_unique}
 use Rattle.integer_laws.specs.Members.{In}
@@ -20,9 +20,7 @@ use Rattle.integer_laws.specs.Laws.Members.{Contains-from_in}
 use Rattle.integer_laws.specs.Laws.Ring.{expand}
 use Rattle.model_laws.specs.Turning.{LeftAbout, TurnsLeft}
 use Rattle.model_laws.specs.Laws.Turning.{left_by_list}
-use Rattle.outline_laws.specs.Edges.{raws, edges_of, Across}
 use Rattle.outline_laws.specs.Laws.Angles.{lesser_not_back}
-use Rattle.outline_laws.specs.Edges.{back}
 use Rattle.model_laws.specs.Laws.Collisions.{sound_zone}
 use Rattle.search_laws.specs.Laws.Gaps.{outlines_of}
 use Rattle.search_laws.specs.Laws.RowSizes.{zone_near, part_of}

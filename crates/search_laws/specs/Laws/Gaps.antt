@@ -4,11 +4,11 @@
 --   gap_is_inner            a contact collides at a point just where the gap is inner to its difference
 --   beyond_is_clear         so it doesn't where the gap is beyond a side
 --   some_beyond             and where it doesn't, the gap is beyond one of the sides
-use Rattle.std.proofs.Common.{◌≡◌, ℕ, ◌≤◌, List, [], ◌∷◌, length, refl, subst, arith, ℤ, pos, ◌+ℤ◌, ◌-ℤ◌, ◌*ℤ◌, ◌≤ℤ◌, ◌<ℤ◌, ◌↔◌, ◌⊎◌, inl, inr}
+use Rattle.std.proofs.Common.{◌≡◌, ◌<◌, ◌^◌, All, ℕ, ◌≤◌, List, [], ◌∷◌, length, refl, subst, arith, ℤ, pos, ◌+ℤ◌, ◌-ℤ◌, ◌*ℤ◌, ◌≤ℤ◌, ◌<ℤ◌, ◌↔◌, ◌⊎◌, inl, inr}
 use Rattle.std.proofs.lemmas.Int.{ints, by_lt_z}
-use Rattle.std.proofs.lemmas.List.Elements.{All-get_or}
-use Rattle.outline_laws.specs.Corners.{HasArea}
-use Rattle.outline_laws.specs.Laws.Around.{AreOutlines}
+use Rattle.std.proofs.lemmas.List.Elements.{All-get_or, All-weaker}
+use Rattle.outline_laws.specs.Corners.{HasArea, IsNarrow}
+use Rattle.outline_laws.specs.Outlines.{AreOutlines}
 use Rattle.outline_laws.specs.Laws.Differences.{area_of_difference}
 use Rattle.integer_laws.specs.Members.{In}
 use Rattle.integer_laws.specs.Laws.Members.{In-from_contains}
@@ -20,6 +20,7 @@ use Rattle.outline_laws.specs.Laws.Sides.{inner_of_free, free_of_inner}
 use Rattle.model_laws.specs.Laws.Collisions.{sound_zone}
 use Rattle.search_laws.specs.Laws.Places.{contact_is_inner}
 use Rattle.plan_laws.specs.Gaps.{gap_at}
+use Rattle.seq_model.specs.Bounds.{IsNearSpot}
 use Rattle.seq_model.specs.Contacts.{difference, points_of, IsContact}
 use Rattle.seq_model.specs.Jobs.{no_part, zone_at, part_at}
 use Rattle.seq_model.specs.Outlines.{Inner}
@@ -38,13 +39,26 @@ outlines_of job c is =
     let earlier = sound_zone job c.i c.zi is.i_in is.zi_in in
     let later = sound_zone job c.j c.zj is.j_in is.zj_in in
     let part = All-get_or IsSoundPart job.printer.parts c.part no_part is.part_in job.printer.parts_are.sound in
-    record { a = earlier.corners; b = later.corners; f = part.corners; a_some = omega (arith, earlier.area); b_some = omega (arith, later.area); f_some = part.some }
+    record {
+      a = earlier.corners;
+      b = later.corners;
+      f = part.corners;
+      a_area = earlier.area;
+      b_area = later.area;
+      f_some = part.some;
+      a_near = narrow 1_001_000 (zone_at job c.i c.zi).corners (omega arith) earlier.near;
+      b_near = narrow 1_001_000 (zone_at job c.j c.zj).corners (omega arith) later.near;
+      f_near = narrow 100_000 (part_at job c.part).corners (omega arith) part.near;
+    }
+  where
+    narrow : (n : ℕ) (S : List Spot) → n < 2 ^ 21 → All (IsNearSpot n) S → All IsNarrow S
+    narrow n S h all = All-weaker (IsNearSpot n) IsNarrow (λ s near. (omega (arith, near.x, h), omega (arith, near.y, h))) S all
 
 area : (A B F : List Spot) → AreOutlines A B F → 3 ≤ length A → HasArea (difference A B F)
 area [] B F o h = absurd (omega (arith, h))
 area (a ∷ []) B F o h = absurd (omega (arith, h))
 area (a ∷ b ∷ []) B F o h = absurd (omega (arith, h))
-area (a ∷ b ∷ c ∷ cs) [] F o h = absurd (omega (arith, o.b_some))
+area (a ∷ b ∷ c ∷ cs) [] F o h = absurd (omega (arith, o.b_area))
 area (a ∷ b ∷ c ∷ cs) (d ∷ B) [] o h = absurd (omega (arith, o.f_some))
 area (a ∷ b ∷ c ∷ cs) (d ∷ B) (f ∷ F) o h = area_of_difference (a ∷ b ∷ c ∷ cs) (d ∷ B) (f ∷ F) d f (area_of_turns a b c cs (left_by_list (a ∷ b ∷ c ∷ cs) o.a)) (inl refl) (inl refl)
 

@@ -9,24 +9,23 @@ use Rattle.std.proofs.lemmas.Int.{ints}
 use Rattle.std.proofs.lemmas.List.{get_or_default}
 use Rattle.std.proofs.lemmas.Option.{none-some}
 use Rattle.outline_laws.specs.Corners.{HasArea}
-use Rattle.outline_laws.specs.Edges.{last_of}
+use Rattle.outline_laws.specs.Edges.{last_of, all_edges}
 use Rattle.outline_laws.specs.Laws.Polygons.{next_of}
 use Rattle.outline_laws.specs.Laws.Within.{seen_by_edges, polygon_turns}
 use Rattle.outline_laws.specs.Hulls.{Hull}
 use Rattle.outline_laws.specs.Laws.EveryList.{hull_of}
 use Rattle.outline_laws.specs.Laws.Area.{three_of_area}
-use Rattle.outline_laws.specs.Edges.{all_edges}
-use Rattle.outline_laws.specs.Directions.{IsReduced, IsGoodAfter}
-use Rattle.outline_laws.specs.Laws.Around.{count_after, Upto, upto_none, upto_more, upto_all, AreOutlines, next_of_edges, next_falls, next_direction}
+use Rattle.outline_laws.specs.Directions.{IsReduced, IsGoodAfter, After, first_after, IsDirection}
+use Rattle.search_laws.specs.Laws.NextSides.{count_after, Upto, upto_none, upto_more, upto_all, next_falls, next_direction}
+use Rattle.outline_laws.specs.Outlines.{AreOutlines}
+use Rattle.outline_laws.specs.Laws.Around.{next_of_edges}
 use Rattle.integer_laws.specs.Divisors.{Reduces}
 use Rattle.integer_laws.specs.Laws.Divisors.{gcd_is, reduces_by_gcd}
 use Rattle.integer_laws.specs.Members.{In}
 use Rattle.integer_laws.specs.Laws.Members.{In-from_contains, Contains-from_in}
 use Rattle.integer_laws.specs.Laws.Ring.{expand}
 use Rattle.model_laws.specs.Laws.Turning.{left_by_list}
-use Rattle.outline_laws.specs.Directions.{After, first_after}
 use Rattle.outline_laws.specs.Laws.Ahead.{IsFirst, first_is}
-use Rattle.outline_laws.specs.Directions.{IsDirection}
 use Rattle.outline_laws.specs.Laws.Sides.{IsNormal, normal_of, some_size, side_of_edge, edge_reaches, edge_level, turn_value, apart_of_turn, last_in}
 use Rattle.search_laws.specs.Laws.Gaps.{outlines_of, area_of_contact}
 use Rattle.seq_model.specs.Budgets.{HasSides}
