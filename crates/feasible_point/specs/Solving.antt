@@ -1,5 +1,5 @@
 -- Each turn of the walk, and what its end says of the rows.
-use Rattle.std.proofs.Common.{◌≡◌, ℕ, suc, ◌+◌, ◌<◌, ◌≤◌, ◌^◌, List, length, map, All, refl, ap, sym, subst, ◌∙◌, arith, ℤ, pos, ◌≤ℤ◌, Some, None, Contains}
+use Rattle.std.proofs.Common.{◌≡◌, ℕ, suc, ◌+◌, ◌<◌, ◌≤◌, ◌^◌, List, length, map, All, refl, ap, sym, subst, ◌∙◌, arith, ℤ, pos, ◌≤ℤ◌, Some, None, Contains, inl, inr}
 use Rattle.std.proofs.lemmas.Int.{ints}
 use Rattle.std.proofs.lemmas.List.{length-map}
 use Rattle.std.proofs.lemmas.List.FromFn.{length-range_with_len}
@@ -19,31 +19,32 @@ use Rattle.row_dictionary.specs.Seen.{Seen, IsOf}
 use Rattle.row_dictionary.specs.Turning.{Turned}
 use Rattle.row_dictionary.specs.declared.turn.Turn.{Turn}
 use Rattle.row_dictionary.specs.declared.turn.Turn.TheVariants as Turns
-use Rattle.feasible_point.specs.Answering.{GoesOn, Ended, Answers, NeverWide, Solves}
-use Rattle.feasible_point.specs.Walking.{table, steps_of, Reached, pivots_to, fewer, reached_next, reached_first, walk_wide, never_wide, stops_point, stops_none, nums, upto_is, meets}
+use Rattle.feasible_point.specs.Answering.{Answers, NeverWide, Solves}
+use Rattle.feasible_point.specs.Walked.{Reached, Walks, GoesOn, Ended, nums_upto}
+use Rattle.feasible_point.specs.Walking.{table, steps_of, pivots_to, fewer, reached_next, reached_here, slacks_rise, walk_to, walk_wide, never_wide, stops_point, stops_none, nums, upto_is, meets}
 use Rattle.feasible_point.specs.declared.Solved.{Solved}
 use Rattle.feasible_point.specs.declared.Solved.TheVariants as Solveds
 use Rattle.seq_model.specs.Dictionaries.{Rises}
 use Rattle.seq_model.specs.Systems.{MeetsRows, Contradiction}
-use Rattle.seq_model.specs.Walks.{constant, WalkWide}
+use Rattle.seq_model.specs.Walks.{constant, slacks, Ends, WalkWide}
 use Rattle.seq_model.specs.declared.row.Row.{Row}
 use Rattle.seq_model.specs.declared.tree.Mult.{Mult}
 
-abbrev pub ReachedAt : List Row → Seen → Type 0
-ReachedAt rows t = Reached t.vars rows (rising (t.vars + length rows) t.basic)
+abbrev pub ReachedAt : List Row → List ℕ → Seen → Type 0
+ReachedAt rows start t = Reached t.vars rows start (rising (t.vars + length rows) t.basic)
 
-pub record GoneOn (rows : List Row) (old new : Seen) : Type 0 where
+pub record GoneOn (rows : List Row) (start : List ℕ) (old new : Seen) : Type 0 where
   pub held : IsOf rows new
   pub vars : new.vars ≡ old.vars
-  pub reached : ReachedAt rows new
+  pub reached : ReachedAt rows start new
   pub fewer : steps_of rows new < steps_of rows old
 
-moved : (rows : List Row) (old new : Seen) → IsOf rows old → ReachedAt rows old → (out into : ℕ) → Turned rows old new (Turns.Next out into) → GoneOn rows old new
-moved rows old new h r out into t = record {
+moved : (rows : List Row) (start : List ℕ) (old new : Seen) → IsOf rows old → ReachedAt rows start old → (out into : ℕ) → Turned rows old new (Turns.Next out into) → GoneOn rows start old new
+moved rows start old new h r out into t = record {
   held = t.4;
   vars = t.2;
-  reached = subst (λ v. Reached v rows (rising (v + length rows) new.basic)) (sym t.2) (subst (λ b. Reached old.vars rows (rising (old.vars + length rows) b)) (sym t.3)
-      (reached_next old.vars rows (rising (old.vars + length rows) old.basic) (rising (old.vars + length rows) (swapped old.basic out into)) r (pivots_to old.vars rows old.d old.basic old.free old.lines h out into at en) (λ w. t.5 w.0 w.1)));
+  reached = subst (λ v. Reached v rows start (rising (v + length rows) new.basic)) (sym t.2) (subst (λ b. Reached old.vars rows start (rising (old.vars + length rows) b)) (sym t.3)
+      (reached_next old.vars rows start (rising (old.vars + length rows) old.basic) (rising (old.vars + length rows) (swapped old.basic out into)) r (pivots_to old.vars rows old.d old.basic old.free old.lines h out into at en) (λ w. t.5 w.0 w.1)));
   fewer = subst (λ v. steps_left (v + length rows) (2 ^ (v + length rows)) (table (v + length rows) new.d new.basic new.free new.lines) < steps_of rows old) (sym t.2)
       (subst (λ b. steps_left (old.vars + length rows) (2 ^ (old.vars + length rows)) (table (old.vars + length rows) new.d b new.free new.lines) < steps_of rows old) (sym t.3)
         (fewer old.vars rows old.d old.basic old.free old.lines h out into at en new.d new.free new.lines
@@ -56,11 +57,11 @@ moved rows old new h r out into t = record {
     en : EntersAt old.free (line_or out old.basic old.lines) into
     en = enters_at old.vars rows old.d old.basic old.free old.lines h out into at.member t.1
 
-pub gone_on : (rows : List Row) (old new : Seen) → IsOf rows old → ReachedAt rows old → (turn : Turn) → Turned rows old new turn → GoesOn turn → GoneOn rows old new
-gone_on rows old new h r Turns.Point t g = absurd g
-gone_on rows old new h r (Turns.Contradiction out) t g = absurd g
-gone_on rows old new h r (Turns.Wide out into row) t g = absurd g
-gone_on rows old new h r (Turns.Next out into) t g = moved rows old new h r out into t
+pub gone_on : (rows : List Row) (start : List ℕ) (old new : Seen) → IsOf rows old → ReachedAt rows start old → (turn : Turn) → Turned rows old new turn → GoesOn turn → GoneOn rows start old new
+gone_on rows start old new h r Turns.Point t g = absurd g
+gone_on rows start old new h r (Turns.Contradiction out) t g = absurd g
+gone_on rows start old new h r (Turns.Wide out into row) t g = absurd g
+gone_on rows start old new h r (Turns.Next out into) t g = moved rows start old new h r out into t
 
 pub stays : (rows : List Row) (old new : Seen) (turn : Turn) → Turned rows old new turn → (GoesOn turn → ⊥) → new ≡ old
 stays rows old new Turns.Point t g = t.0
@@ -71,17 +72,30 @@ stays rows old new (Turns.Next out into) t g = absurd (g tt)
 pub ended_here : (rows : List Row) (old new : Seen) (turn : Turn) → Turned rows old new turn → (GoesOn turn → ⊥) → Ended rows new turn
 ended_here rows old new turn t g = (g, subst (λ s. Turned rows s new turn) (sym (stays rows old new turn t g)) t)
 
-pub starts : (vars : ℕ) (rows : List Row) → AreRowsOf vars rows → IsOf rows (start vars rows) × ReachedAt rows (start vars rows)
-starts vars rows are = (slack_table vars rows are, reached_first vars rows)
+pub ends : (rows : List Row) (t : Seen) → IsOf rows t → (turn : Turn) → Ended rows t turn → Ends t.vars rows (rising (t.vars + length rows) t.basic)
+ends rows t h Turns.Point e = inl (stops_point t.vars rows t.d t.basic t.free t.lines h (none_leaves t.vars rows t.d t.basic t.free t.lines h e.1.1))
+ends rows t h (Turns.Contradiction out) e = inl (stops_none t.vars rows t.d t.basic t.free t.lines h out at (none_enters t.vars rows t.d t.basic t.free t.lines h out at.member e.1.2))
+  where
+    at : LeavesAt t.basic t.lines out
+    at = leaves_at t.vars rows t.d t.basic t.free t.lines h out e.1.1
+ends rows t h (Turns.Wide out into row) e =
+    inr (rising (t.vars + length rows) (swapped t.basic out into), pivots_to t.vars rows t.d t.basic t.free t.lines h out into at (enters_at t.vars rows t.d t.basic t.free t.lines h out into at.member e.1.2), (row, e.1.3))
+  where
+    at : LeavesAt t.basic t.lines out
+    at = leaves_at t.vars rows t.d t.basic t.free t.lines h out e.1.1
+ends rows t h (Turns.Next out into) e = absurd (e.0 tt)
+
+pub walks_to : (rows : List Row) (start : List ℕ) (t : Seen) → IsOf rows t → ReachedAt rows start t → (turn : Turn) → Ended rows t turn → Walks t.vars rows start (rising (t.vars + length rows) t.basic)
+walks_to rows start t h r turn e = walk_to t.vars rows start (rising (t.vars + length rows) t.basic) r (ends rows t h turn e)
 
 pub out_of : (rows : List Row) (t : Seen) → IsOf rows t → (turn : Turn) → Ended rows t turn → (out into row : ℕ) → turn ≡ Turns.Wide out into row → Contains t.basic out
 out_of rows t h turn e out into row s = Contains-from_in t.basic out (leaves_at t.vars rows t.d t.basic t.free t.lines h out (subst (λ (u : Turn). Turned rows t t u) s e.1).1).member
 
-pub solves : (rows : List Row) (t : Seen) → IsOf rows t → ReachedAt rows t → (turn : Turn) → Ended rows t turn → (solved : Solved) → Answers t turn solved → Solves t.vars rows solved
+pub solves : (rows : List Row) (t : Seen) → IsOf rows t → Walks t.vars rows (slacks t.vars rows) (rising (t.vars + length rows) t.basic) → (turn : Turn) → Ended rows t turn → (solved : Solved) → Answers t turn solved → Solves t.vars rows solved
 solves rows t h r Turns.Point e (Solveds.Point den list) a = (
   subst (λ c. MeetsRows rows c list.items) (sym a.0) (subst (MeetsRows rows t.d) (sym (a.1 ∙ upto_is t.vars t.basic t.lines)) (meets t.vars rows t.d t.basic t.free t.lines h none)),
   ap length (a.1 ∙ upto_is t.vars t.basic t.lines) ∙ length-map (range_with_len 0 t.vars) (λ z. constant (line_or z t.basic t.lines)) ∙ length-range_with_len 0 t.vars,
-  never_wide t.vars rows (rising (t.vars + length rows) t.basic) r (stops_point t.vars rows t.d t.basic t.free t.lines h none),
+  never_wide t.vars rows (slacks t.vars rows) (rising (t.vars + length rows) t.basic) r (stops_point t.vars rows t.d t.basic t.free t.lines h none),
 )
   where
     none : (y : ℕ) → In y t.basic → pos 0 ≤ℤ constant (line_or y t.basic t.lines)
@@ -93,7 +107,7 @@ solves rows t h r (Turns.Contradiction out) e (Solveds.Contradiction list) a =
     subst (λ (ms : List Mult). Contradiction rows ms × Rises (length rows) (map (λ (m : Mult). m.row) ms) × All (λ (m : Mult). pos 1 ≤ℤ m.times) ms × (0 < length ms) × (length ms ≤ suc t.vars) × NeverWide t.vars rows) (sym is)
     (both, rising_mults t.vars w (length rows), All-from_in (λ (m : Mult). pos 1 ≤ℤ m.times) (mults t.vars w (length rows)) (λ m i. let s = (taken_of t.vars w (length rows) m i).some in omega (arith, ints, s)),
       some_mults rows (mults t.vars w (length rows)) both, few_mults t.vars rows t.d t.basic t.free t.lines h out at.member (line_or out t.basic t.lines),
-      never_wide t.vars rows (rising (t.vars + length rows) t.basic) r (stops_none t.vars rows t.d t.basic t.free t.lines h out at none))
+      never_wide t.vars rows (slacks t.vars rows) (rising (t.vars + length rows) t.basic) r (stops_none t.vars rows t.d t.basic t.free t.lines h out at none))
   where
     w : ℕ → ℤ
     w = weight t.d out t.free (line_or out t.basic t.lines)
@@ -115,7 +129,7 @@ solves rows t h r (Turns.Wide out into row) e (Solveds.Contradiction list) a = a
 solves rows t h r (Turns.Wide out into row) e (Solveds.Wide basis k) a =
     subst (λ (b : List ℕ). WalkWide t.vars rows b k) (sym (a.0 ∙ ap (λ n. rising (t.vars + n) (swapped t.basic out into)) h.many))
     (subst (WalkWide t.vars rows (rising (t.vars + length rows) (swapped t.basic out into))) (sym a.1)
-      (walk_wide t.vars rows (rising (t.vars + length rows) t.basic) (rising (t.vars + length rows) (swapped t.basic out into)) row r (pivots_to t.vars rows t.d t.basic t.free t.lines h out into at en) e.1.3 e.1.4))
+      (walk_wide t.vars rows (slacks t.vars rows) (rising (t.vars + length rows) t.basic) (rising (t.vars + length rows) (swapped t.basic out into)) row r (pivots_to t.vars rows t.d t.basic t.free t.lines h out into at en) e.1.3 e.1.4))
   where
     at : LeavesAt t.basic t.lines out
     at = leaves_at t.vars rows t.d t.basic t.free t.lines h out e.1.1

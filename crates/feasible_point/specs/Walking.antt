@@ -34,7 +34,8 @@ use Rattle.row_dictionary.specs.Seen.{swapped}
 use Rattle.row_dictionary.specs.Seen.{Seen, IsOf}
 use Rattle.seq_model.specs.Dictionaries.{free_of, is_in, Form, Has, WideAt}
 use Rattle.seq_model.specs.Systems.{MeetsRows}
-use Rattle.seq_model.specs.Walks.{constant, entries, Leaves, Enters, NothingLeaves, NothingEnters, Pivots, Stops, IsWide, Ends, Follow, Walk, slacks, WalkWide}
+use Rattle.feasible_point.specs.Walked.{Reached, Walks, nums_upto}
+use Rattle.seq_model.specs.Walks.{constant, entries, Leaves, Enters, NothingLeaves, NothingEnters, Pivots, Stops, IsWide, Ends, Follow, Walk, EndsWide}
 use Rattle.seq_model.specs.declared.row.Row.{Row}
 
 abbrev pub table : ℕ → ℤ → List ℕ → List ℕ → List (List ℤ) → Table
@@ -188,9 +189,6 @@ fewer vars rows d basic free lines h out into at en e gone others k =
     (next_is vars rows d basic free lines h out into at en e gone others k)
 
 -- ---- the walk so far
-abbrev pub Reached : ℕ → List Row → List ℕ → Type 0
-Reached vars rows basis = (before : List (List ℕ)) × (slice_get (before ++ basis ∷ []) 0 ≡ Some (slacks vars rows)) × Follow vars rows (before ++ basis ∷ [])
-
 follow_on : (vars : ℕ) (rows : List Row) (before : List (List ℕ)) (b n : List ℕ) → Follow vars rows (before ++ b ∷ []) → Pivots vars rows b n → (IsWide vars rows n → ⊥) → Follow vars rows ((before ++ b ∷ []) ++ n ∷ [])
 follow_on vars rows [] b n f p w = (p, w, tt)
 follow_on vars rows (a ∷ []) b n f p w = (f.0, f.1, (p, w, tt))
@@ -200,11 +198,14 @@ begin_on : (before : List (List ℕ)) (b n : List ℕ) → slice_get ((before ++
 begin_on [] b n = refl
 begin_on (a ∷ before) b n = refl
 
-pub reached_next : (vars : ℕ) (rows : List Row) (b n : List ℕ) → Reached vars rows b → Pivots vars rows b n → (IsWide vars rows n → ⊥) → Reached vars rows n
-reached_next vars rows b n r p w = (r.0 ++ b ∷ [], begin_on r.0 b n ∙ r.1, follow_on vars rows r.0 b n r.2 p w)
+pub reached_next : (vars : ℕ) (rows : List Row) (start b n : List ℕ) → Reached vars rows start b → Pivots vars rows b n → (IsWide vars rows n → ⊥) → Reached vars rows start n
+reached_next vars rows start b n r p w = (r.0 ++ b ∷ [], begin_on r.0 b n ∙ r.1, follow_on vars rows r.0 b n r.2 p w)
 
-pub reached_first : (vars : ℕ) (rows : List Row) → Reached vars rows (rising (vars + length rows) (range_with_len vars (length rows)))
-reached_first vars rows = ([], ap Some same, tt)
+pub reached_here : (vars : ℕ) (rows : List Row) (start : List ℕ) → Reached vars rows start start
+reached_here vars rows start = ([], refl, tt)
+
+pub slacks_rise : (vars : ℕ) (rows : List Row) → rising (vars + length rows) (range_with_len vars (length rows)) ≡ range_with_len vars (length rows)
+slacks_rise vars rows = same
   where
     small : (z : ℕ) → In z (range_with_len vars (length rows)) → z < vars + length rows
     small z i = (below vars (vars + length rows) (range_with_len vars (length rows)) z (range_climbs vars (length rows) (vars + length rows) refl) i).1
@@ -218,23 +219,23 @@ reached_first vars rows = ([], ap Some same, tt)
         wider low [] c = tt
         wider low (z ∷ zs) c = (omega arith, c.1, c.2)
 
-pub walk_wide : (vars : ℕ) (rows : List Row) (b n : List ℕ) (row : ℕ) → Reached vars rows b → Pivots vars rows b n → WideAt vars rows n row → ((y : ℕ) → WideAt vars rows n y → row ≤ y) → WalkWide vars rows n row
-walk_wide vars rows b n row r p w least = record {
-  bases = r.0 ++ b ∷ [];
-  walk = record { before = r.0; last = b; bases_are = refl; begins = r.1; follow = r.2; ends = inr (n, p, (row, w)) };
+pub walk_to : (vars : ℕ) (rows : List Row) (start b : List ℕ) → Reached vars rows start b → Ends vars rows b → Walks vars rows start b
+walk_to vars rows start b r e = record { before = r.0; walk = record { before = r.0; last = b; bases_are = refl; begins = r.1; follow = r.2; ends = e } }
+
+pub walk_wide : (vars : ℕ) (rows : List Row) (start b n : List ℕ) (row : ℕ) → Walks vars rows start b → Pivots vars rows b n → WideAt vars rows n row → ((y : ℕ) → WideAt vars rows n y → row ≤ y) → EndsWide vars rows start n row
+walk_wide vars rows start b n row r p w least = record {
+  bases = r.before ++ b ∷ [];
+  walk = record { before = r.before; last = b; bases_are = refl; begins = r.walk.begins; follow = r.walk.follow; ends = inr (n, p, (row, w)) };
   next = p;
   wide = w;
   least = least;
 }
 
-pub never_wide : (vars : ℕ) (rows : List Row) (b : List ℕ) → Reached vars rows b → Stops vars rows b → (n : List ℕ) (row : ℕ) → WalkWide vars rows n row → ⊥
-never_wide vars rows b r stops n row w = none-some n (same_result vars rows b None (Some n) stops (subst (λ t. Pivots vars rows t n) last w.next))
+pub never_wide : (vars : ℕ) (rows : List Row) (start b : List ℕ) → Walks vars rows start b → Stops vars rows b → (n : List ℕ) (row : ℕ) → EndsWide vars rows start n row → ⊥
+never_wide vars rows start b r stops n row w = none-some n (same_result vars rows b None (Some n) stops (subst (λ t. Pivots vars rows t n) last w.next))
   where
-    v : Walk vars rows (slacks vars rows) (r.0 ++ b ∷ [])
-    v = record { before = r.0; last = b; bases_are = refl; begins = r.1; follow = r.2; ends = inl stops }
-
     last : w.walk.last ≡ b
-    last = last_same w.walk.before r.0 w.walk.last b (sym w.walk.bases_are ∙ one_walk vars rows (slacks vars rows) w.bases (r.0 ++ b ∷ []) w.walk v)
+    last = last_same w.walk.before r.before w.walk.last b (sym w.walk.bases_are ∙ one_walk vars rows start w.bases (r.before ++ b ∷ []) w.walk r.walk)
 
 pub stops_point : (vars : ℕ) (rows : List Row) (d : ℤ) (basic free : List ℕ) (lines : List (List ℤ)) → Holds vars rows d basic free lines → ((y : ℕ) → In y basic → pos 0 ≤ℤ constant (line_or y basic lines))
     → Stops vars rows (rising (vars + length rows) basic)
@@ -253,11 +254,6 @@ stops_none vars rows d basic free lines h out at none =
 -- ---- the point
 abbrev pub nums : ℕ → List ℕ → List (List ℤ) → List ℤ
 nums vars basic lines = map (λ z. constant (line_or z basic lines)) (range_with_len 0 vars)
-
--- the same, from its end
-abbrev pub nums_upto : ℕ → List ℕ → List (List ℤ) → List ℤ
-nums_upto zero basic lines = []
-nums_upto (suc n) basic lines = nums_upto n basic lines ++ constant (line_or n basic lines) ∷ []
 
 map_on : (f : ℕ → ℤ) (xs : List ℕ) (x : ℕ) → map f (xs ++ x ∷ []) ≡ map f xs ++ f x ∷ []
 map_on f [] x = refl

@@ -53,15 +53,18 @@ turned_places places list k y x j i p f h n at d in_x in_y other long here there
     fresh = fresh_set list k y f n
 
     by : (z ≡ y) ⊎ (In z list × (z ≢ get_or list k 0)) → (z < length other) × (get_or other z 0 ≡ place_of z (set list k y))
-    by (inl e) = (subst (λ t. t < length other) (sym e) (subst (λ t. y < t) (sym long) in_y),
-        ap (λ t. get_or other t 0) e ∙ here ∙ sym (place_unique z (set list k y) k fresh (subst (λ t. k < t) (sym (length-set list k y)) h) (get_or-set_same list k y 0 h ∙ sym e)))
+    by (inl e) = (
+      subst (λ t. t < length other) (sym e) (subst (λ t. y < t) (sym long) in_y),
+      ap (λ t. get_or other t 0) e ∙ here ∙ sym (place_unique z (set list k y) k fresh (subst (λ t. k < t) (sym (length-set list k y)) h) (get_or-set_same list k y 0 h ∙ sym e)),
+    )
     by (inr q) =
         let old = p z q.0 in
         let is = place_is z list q.0 in
-        let away : place_of z list ≡ k → ⊥ = λ e. q.1 (sym is.1 ∙ ap (λ t. get_or list t 0) e) in
-        (subst (λ t. z < t) (sym long) old.0,
+        let away : place_of z list ≡ k → ⊥ = λ e. q.1 (sym is.1 ∙ ap (λ t. get_or list t 0) e) in (
+          subst (λ t. z < t) (sym long) old.0,
           there z (λ e. q.1 (e ∙ sym at)) (λ e. n (subst (λ t. In t list) e q.0)) ∙ old.1
-          ∙ sym (place_unique z (set list k y) (place_of z list) fresh (subst (λ t. place_of z list < t) (sym (length-set list k y)) is.0) (get_or-set_other list k (place_of z list) y 0 away ∙ is.1)))
+              ∙ sym (place_unique z (set list k y) (place_of z list) fresh (subst (λ t. place_of z list < t) (sym (length-set list k y)) is.0) (get_or-set_other list k (place_of z list) y 0 away ∙ is.1)),
+        )
 
 pub exchanged : (places basic free : List ℕ) (r s : ℕ) → IsPlaced places basic free → r < length basic → s < length free
     → IsPlaced (set (set places (get_or basic r 0) s) (get_or free s 0) r) (set basic r (get_or free s 0)) (set free s (get_or basic r 0))
@@ -177,9 +180,11 @@ placed_first vars count = record {
     free z h =
         let a = A in
         let l = all in
-        let w : get_or (range_with_len 0 vars) z 0 ≡ z = let e = at_range 0 vars z 0 h in omega (arith, e) in
-        (omega (arith, l, h), in_front (range_with_len 0 vars) (range_with_len 0 count) z 0 (omega (arith, a, h)) ∙ w
-          ∙ sym (place_unique z (range_with_len 0 vars) z (climbs_fresh 0 vars (range_with_len 0 vars) (range_climbs 0 vars vars (plain vars))) (omega (arith, a, h)) w))
+        let w : get_or (range_with_len 0 vars) z 0 ≡ z = let e = at_range 0 vars z 0 h in omega (arith, e) in (
+          omega (arith, l, h),
+          in_front (range_with_len 0 vars) (range_with_len 0 count) z 0 (omega (arith, a, h)) ∙ w
+              ∙ sym (place_unique z (range_with_len 0 vars) z (climbs_fresh 0 vars (range_with_len 0 vars) (range_climbs 0 vars vars (plain vars))) (omega (arith, a, h)) w),
+        )
 
 pub range_zero : (n : ℕ) → range_with_len 0 (n + 1) ≡ range_with_len 0 n ++ n ∷ []
 range_zero n = range_next 0 n ∙ ap (λ t. range_with_len 0 n ++ t ∷ []) (plain n)

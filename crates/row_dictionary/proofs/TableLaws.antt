@@ -26,9 +26,9 @@ pub done_holds : (vars : ℕ) (rows : List Row) (b after : Before) (r s : ℕ) �
 done_holds vars rows b after r s h in_r in_s d =
     subst (λ t. Holds vars rows t after.basic after.free after.lines) (sym d.d)
     (subst (λ t. Holds vars rows (int_div (whole_den b r s) d.g) after.basic after.free t) (sym d.lines)
-      (subst (λ t. Holds vars rows (int_div (whole_den b r s) d.g) after.basic t (map (quotients d.g) (whole_lines b r s))) (sym d.free)
-        (subst (λ t. Holds vars rows (int_div (whole_den b r s) d.g) t (swapped_free b r s) (map (quotients d.g) (whole_lines b r s))) (sym d.basic)
-          (turned vars rows b.d b.basic b.free b.lines h r s in_r in_s d.g d.by.some d.by.content d.by.sign))))
+    (subst (λ t. Holds vars rows (int_div (whole_den b r s) d.g) after.basic t (map (quotients d.g) (whole_lines b r s))) (sym d.free)
+    (subst (λ t. Holds vars rows (int_div (whole_den b r s) d.g) t (swapped_free b r s) (map (quotients d.g) (whole_lines b r s))) (sym d.basic)
+    (turned vars rows b.d b.basic b.free b.lines h r s in_r in_s d.g d.by.some d.by.content d.by.sign))))
 
 has_at : {X : Type 0} (zs : List ℕ) (xs : List X) (i : ℕ) (d : X) → i < length zs → length zs ≡ length xs → Has zs xs (get_or zs i 0) (get_or xs i d)
 has_at [] xs i d h l = absurd (omega (arith, h))
@@ -71,7 +71,7 @@ refused_wide vars rows b r s z h in_r in_s w = (wide_row vars rows e basic (swap
     not_small : All Small (int_div (whole_den b r s) w.g ∷ line_or z (swapped_basic b r s) (map (quotients w.g) (whole_lines b r s))) → ⊥
     not_small all =
         w.least.0.3 (subst (All Small) (sym (at_map (λ (t : List ℤ). int_div (whole_den b r s) w.g ∷ t) (map (quotients w.g) (whole_lines b r s)) i [] [] (let m = long in let k = in_i in omega (arith, m, k))))
-          (subst (λ t. All Small (int_div (whole_den b r s) w.g ∷ t)) (line_there (swapped_basic b r s) (map (quotients w.g) (whole_lines b r s)) i z T.fresh_basic long in_i w.least.0.2) all))
+        (subst (λ t. All Small (int_div (whole_den b r s) w.g ∷ t)) (line_there (swapped_basic b r s) (map (quotients w.g) (whole_lines b r s)) i z T.fresh_basic long in_i w.least.0.2) all))
 
 pub refused_least : (vars : ℕ) (rows : List Row) (b : Before) (r s z : ℕ) → HoldsIt vars rows b → r < length b.basic → s < length b.free → Refused b r s z
     → (y : ℕ) → WideAt vars rows (rising (vars + length rows) (swapped_basic b r s)) y → z ≤ y
@@ -96,7 +96,7 @@ refused_least vars rows b r s z h in_r in_s w y wide = subst (λ t. z ≤ t) at.
     not_small all =
         (wide_row vars rows (int_div (whole_den b r s) w.g) (swapped_basic b r s) (swapped_free b r s) (map (quotients w.g) (whole_lines b r s)) T y in_y).0 wide
         (subst (λ t. All Small (int_div (whole_den b r s) w.g ∷ t)) (sym (line_there (swapped_basic b r s) (map (quotients w.g) (whole_lines b r s)) (place_of y (swapped_basic b r s)) y T.fresh_basic long at.0 at.1))
-          (subst (All Small) (at_map (λ (t : List ℤ). int_div (whole_den b r s) w.g ∷ t) (map (quotients w.g) (whole_lines b r s)) (place_of y (swapped_basic b r s)) [] [] (let m = long in let k = at.0 in omega (arith, m, k))) all))
+        (subst (All Small) (at_map (λ (t : List ℤ). int_div (whole_den b r s) w.g ∷ t) (map (quotients w.g) (whole_lines b r s)) (place_of y (swapped_basic b r s)) [] [] (let m = long in let k = at.0 in omega (arith, m, k))) all))
 
 -- a buffer whose front was written
 pub front_of : {A : Type 0} (xs ys : List A) (n : ℕ) → length xs ≡ n → take n (xs ++ ys) ≡ xs

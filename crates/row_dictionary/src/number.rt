@@ -49,7 +49,11 @@ fn number(mix: &Mix, j: usize, z: &i64, y: &i64) -> i128
     ensures value { result ≡ mixed mix.now j z.now y.now }
     ensures size { unsigned_abs result < 2 ^ 125 }
 {
-    if j == mix.place { turned(mix) } else { crossed(mix, z, y) }
+    if j == mix.place {
+        turned(mix)
+    } else {
+        crossed(mix, z, y)
+    }
 }
 
 /// The quotient by the divisor.

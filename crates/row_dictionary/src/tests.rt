@@ -33,13 +33,22 @@ fn rows_of(alloc: Global, rows: &[(i64, [i64; 2])]) -> Result<Vec<Row>, AllocErr
     Ok(made)
 }
 
-fn dictionary_of(rt: &impl Abort, alloc: Global, rows: &[(i64, [i64; 2])]) -> Result<Dictionary, Fail> {
+fn dictionary_of(
+    rt: &impl Abort,
+    alloc: Global,
+    rows: &[(i64, [i64; 2])],
+) -> Result<Dictionary, Fail> {
     let rows = rows_of(alloc, rows)?;
     assert!(rt; rows.len() < 100 && are_rows_of(2, &rows) && are_small_rows(&rows));
     Ok(Dictionary::of(alloc, 2, &rows)?)
 }
 
-fn pivot(rt: &impl Abort, dictionary: &mut Dictionary, leaving: u32, entering: u32) -> Result<(), u32> {
+fn pivot(
+    rt: &impl Abort,
+    dictionary: &mut Dictionary,
+    leaving: u32,
+    entering: u32,
+) -> Result<(), u32> {
     assert!(rt; dictionary.is_basic(leaving) && dictionary.is_free(entering));
     assert!(rt; dictionary.entry(leaving, entering) != 0);
     match dictionary.pivot(leaving, entering) {
@@ -60,11 +69,21 @@ fn see_pivoted(
         (Ok(()), Ok((den, basic, constant, left, other))) => {
             assert_eq!(rt; dictionary.den(), den);
             assert_eq!(rt; dictionary.constant(basic), constant);
-            assert_eq!(rt; (dictionary.entry(basic, swap.0), dictionary.entry(basic, 1)), (left, other));
+            assert_eq!(rt;
+                (dictionary.entry(basic, swap.0), dictionary.entry(basic, 1)),
+                (left, other)
+            );
         }
         (Err(row), Err(first)) => {
             assert_eq!(rt; row, first);
-            assert_eq!(rt; (dictionary.den(), dictionary.constant(2), dictionary.entry(2, 0)), (1, -1, BIG));
+            assert_eq!(rt;
+                (
+                    dictionary.den(),
+                    dictionary.constant(2),
+                    dictionary.entry(2, 0)
+                ),
+                (1, -1, BIG)
+            );
             assert!(rt; dictionary.is_basic(2) && !dictionary.is_basic(0));
         }
         _ => assert!(rt; false),

@@ -143,7 +143,7 @@ leaves_at vars rows d basic free lines h out e = by (subst (Found basic (λ i. l
       least = λ y i n.
           let at = place_is y basic i in
           subst (λ z. out ≤ z) at.1 (f.least (place_of y basic) at.0
-            (test_is (number_at lines (place_of y basic) 0) (pos 0) (subst (λ x. x <ℤ pos 0) (constant_there vars rows d basic free lines h (place_of y basic) at.0) (subst (λ z. constant (line_or z basic lines) <ℤ pos 0) (sym at.1) n))));
+          (test_is (number_at lines (place_of y basic) 0) (pos 0) (subst (λ x. x <ℤ pos 0) (constant_there vars rows d basic free lines h (place_of y basic) at.0) (subst (λ z. constant (line_or z basic lines) <ℤ pos 0) (sym at.1) n))));
     }
 
 pub none_leaves : (vars : ℕ) (rows : List Row) (d : ℤ) (basic free : List ℕ) (lines : List (List ℤ)) → Holds vars rows d basic free lines → least_leaving basic lines ≡ None → (y : ℕ) → In y basic → pos 0 ≤ℤ constant (line_or y basic lines)
@@ -164,8 +164,8 @@ enters_at vars rows d basic free lines h out into m e = by (subst (Found free (�
       least = λ y i n.
           let at = place_is y free i in
           subst (λ z. into ≤ z) at.1 (f.least (place_of y free) at.0
-            (test_is (pos 0) (number_at lines (place_of out basic) (suc (place_of y free)))
-              (subst (λ x. pos 0 <ℤ x) (entry_there vars rows d basic free lines h out m (place_of y free) at.0) (subst (λ z. pos 0 <ℤ entry_of z free (entries (line_or out basic lines))) (sym at.1) n))));
+          (test_is (pos 0) (number_at lines (place_of out basic) (suc (place_of y free)))
+          (subst (λ x. pos 0 <ℤ x) (entry_there vars rows d basic free lines h out m (place_of y free) at.0) (subst (λ z. pos 0 <ℤ entry_of z free (entries (line_or out basic lines))) (sym at.1) n))));
     }
 
 pub none_enters : (vars : ℕ) (rows : List Row) (d : ℤ) (basic free : List ℕ) (lines : List (List ℤ)) → Holds vars rows d basic free lines → (out : ℕ) → In out basic → least_entering free lines (place_of out basic) ≡ None

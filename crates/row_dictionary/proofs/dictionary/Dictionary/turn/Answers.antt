@@ -30,11 +30,20 @@ pivot-requires-clause-entry c =
     λ z. absurd (omega (arith, ints, p, z))
 
 pub returns-in-Ok : goal.returns-in-Ok
-returns-in-Ok c =
-    (sym c.leaving.ensures ∙ c.in-Some.is, sym c.entering.ensures ∙ c.in-Some-entering.is, c.pivot.ensures.vars, c.in-Ok.ensures.basic, c.in-Ok.ensures.held c.args.rows.now c.requires,
-      λ y w. c.in-Ok.ensures.fine c.args.rows.now y c.requires w)
+returns-in-Ok c = (
+  sym c.leaving.ensures ∙ c.in-Some.is,
+  sym c.entering.ensures ∙ c.in-Some-entering.is,
+  c.pivot.ensures.vars,
+  c.in-Ok.ensures.basic,
+  c.in-Ok.ensures.held c.args.rows.now c.requires,
+  λ y w. c.in-Ok.ensures.fine c.args.rows.now y c.requires w,
+)
 
 pub returns-in-Err : goal.returns-in-Err
-returns-in-Err c =
-    (c.in-Err.ensures.unchanged, sym c.leaving.ensures ∙ c.in-Some.is, sym c.entering.ensures ∙ c.in-Some-entering.is, c.in-Err.ensures.wide c.args.rows.now c.requires,
-      λ y w. c.in-Err.ensures.least c.args.rows.now y c.requires w)
+returns-in-Err c = (
+  c.in-Err.ensures.unchanged,
+  sym c.leaving.ensures ∙ c.in-Some.is,
+  sym c.entering.ensures ∙ c.in-Some-entering.is,
+  c.in-Err.ensures.wide c.args.rows.now c.requires,
+  λ y w. c.in-Err.ensures.least c.args.rows.now y c.requires w,
+)

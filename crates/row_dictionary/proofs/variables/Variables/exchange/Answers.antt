@@ -32,4 +32,4 @@ invariant_of-self c =
     let into_is : c.index-into.result.now ≡ get_or c.self.inside.free.items c.args.s 0 = c.index-into.ensures ∙ any_default free c.args.s c.index-into.result.now 0 in_s in
     subst (λ o. IsPlaced (set (set places o c.args.s) c.index-into.result.now c.args.r) (set basic c.args.r c.index-into.result.now) (set free c.args.s o)) (sym out_is)
     (subst (λ i. IsPlaced (set (set places (get_or basic c.args.r 0) c.args.s) i c.args.r) (set basic c.args.r i) (set free c.args.s (get_or basic c.args.r 0))) (sym into_is)
-      (exchanged places basic free c.args.r c.args.s c.self.invariant in_r in_s))
+    (exchanged places basic free c.args.r c.args.s c.self.invariant in_r in_s))

@@ -8,5 +8,5 @@ pub invariant_of-result : goal.invariant_of-result
 invariant_of-result c =
     subst (λ (t : List ℕ). IsPlaced t c.in_ok-range.field-0.items c.in_ok-range-2.field-0.items) (sym c.in_ok-first_places.ensures)
     (subst (λ (t : List ℕ). IsPlaced (range_with_len 0 c.args.vars ++ range_with_len 0 c.args.count) t c.in_ok-range-2.field-0.items) (sym c.in_ok-range.ensures)
-      (subst (λ (t : List ℕ). IsPlaced (range_with_len 0 c.args.vars ++ range_with_len 0 c.args.count) (range_with_len c.args.vars c.args.count) t) (sym c.in_ok-range-2.ensures)
-        (placed_first c.args.vars c.args.count)))
+    (subst (λ (t : List ℕ). IsPlaced (range_with_len 0 c.args.vars ++ range_with_len 0 c.args.count) (range_with_len c.args.vars c.args.count) t) (sym c.in_ok-range-2.ensures)
+    (placed_first c.args.vars c.args.count)))

@@ -1,0 +1,85 @@
+use crate::{Solved, solve};
+use owned_lists::Items;
+use row_dictionary::{are_rows_of, are_small_rows};
+use seq_model::Row;
+use std::alloc::{AllocError, Global};
+use std::process::Abort;
+use std::test::Fail;
+
+const BIG: i64 = 1 << 61;
+
+/// What a system of two variables has: a point over the denominator, two rows of a contradiction and how often each is
+/// taken, or a basis of two and its row.
+#[derive(Clone, Copy, Debug, PartialEq, Eq)]
+enum Found {
+    Point { den: i64, x: i64, y: i64 },
+    Pair { rows: (u32, u32), times: (i64, i64) },
+    Alone { row: u32, times: i64 },
+    Wide { basis: (u32, u32), row: u32 },
+    Other,
+}
+
+static SOLVED: [(&[(i64, [i64; 2])], Found); 9] = [
+    (&[(-1, [2, 0])], Found::Point { den: 2, x: 1, y: 0 }),
+    (&[(-5, [1, 0]), (3, [-1, 0])], Found::Pair { rows: (0, 1), times: (1, 1) }),
+    (&[], Found::Point { den: 1, x: 0, y: 0 }),
+    (&[(-1, [BIG, 0]), (-2, [1, 3])], Found::Wide { basis: (0, 3), row: 3 }),
+    (&[(4, [-1, -1]), (0, [1, 1])], Found::Point { den: 1, x: 0, y: 0 }),
+    (&[(-3, [2, 1]), (8, [-1, -1])], Found::Point { den: 2, x: 3, y: 0 }),
+    (&[(-1, [0, 0])], Found::Alone { row: 0, times: 1 }),
+    (&[(-2, [-1, -3])], Found::Alone { row: 0, times: 1 }),
+    (&[(-4, [1, -1]), (-1, [-1, 1])], Found::Pair { rows: (0, 1), times: (1, 1) }),
+];
+
+fn rows_of(alloc: Global, rows: &[(i64, [i64; 2])]) -> Result<Vec<Row>, AllocError> {
+    let mut made = Vec::new(alloc);
+    for (c, a) in rows {
+        let mut items = Items::new(alloc);
+        for x in a {
+            items.push(*x)?;
+        }
+        made.push(Row { c: *c, a: items })?;
+    }
+    Ok(made)
+}
+
+fn found_in(solved: &Solved) -> Found {
+    match solved {
+        Solved::Point { den, nums } => {
+            if nums.len() == 2 {
+                return Found::Point { den: *den, x: nums[0], y: nums[1] };
+            }
+            Found::Other
+        }
+        Solved::Contradiction(mults) => {
+            if mults.len() == 1 {
+                return Found::Alone { row: mults[0].row, times: mults[0].times };
+            }
+            if mults.len() == 2 {
+                return Found::Pair { rows: (mults[0].row, mults[1].row), times: (mults[0].times, mults[1].times) };
+            }
+            Found::Other
+        }
+        Solved::Wide { basis, row } => {
+            if basis.len() == 2 {
+                return Found::Wide { basis: (basis[0], basis[1]), row: *row };
+            }
+            Found::Other
+        }
+    }
+}
+
+fn see_solved(rt: &impl Abort, alloc: Global, rows: &[(i64, [i64; 2])], wanted: Found) -> Result<(), Fail> {
+    let rows = rows_of(alloc, rows)?;
+    assert!(rt; rows.len() < 100 && are_rows_of(2, &rows) && are_small_rows(&rows));
+    assert_eq!(rt; found_in(&solve(alloc, 2, &rows)?), wanted);
+    Ok(())
+}
+
+#[test]
+fn systems_of_two_variables(rt: HostRuntime) -> Result<(), Fail> {
+    for (rows, wanted) in &SOLVED {
+        see_solved(&rt, rt.alloc(), rows, *wanted)?;
+    }
+    Ok(())
+}
