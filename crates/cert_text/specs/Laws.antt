@@ -1,0 +1,5 @@
+-- Lemmas over the definitions, for proofs to cite: nothing here has to be believed.
+pub mod Counts
+pub mod Mults
+pub mod Numbers
+pub mod Pairs
