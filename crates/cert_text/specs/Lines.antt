@@ -13,7 +13,7 @@
 --   line_at bytes              == the node of the line, or why it isn't read: the form first, then the numbers, then the multipliers
 use Rattle.std.specs.Prelude.{ℕ, ℤ, pos, negsuc, zero, suc, int_lt, unsigned_abs, List, [], ◌∷◌, length, map, slice_index_or, Bool, true, false, not, ◌&&◌, ◌==◌, if◌then◌else◌, Option, Some, None, option_and_then, is_some, Result, Ok, Err, codes}
 use Rattle.std.specs.List.{list_any}
-use Rattle.seq_num.specs.Reading.{literal_at, whole_at}
+use Rattle.text_lines.specs.Reading.{◌>>=◌, literal_at, whole_at, has_line_end}
 use Rattle.seq_model.specs.declared.tree.Mult.{Mult}
 use Rattle.seq_model.specs.declared.tree.Node.{Node}
 use Rattle.seq_model.specs.declared.tree.Node.TheVariants as Nodes
@@ -24,16 +24,8 @@ use Rattle.cert_text.specs.declared.lines.Stop.TheVariants.{Unended, Other, Rang
 use Rattle.cert_text.specs.declared.pairs.Pair.{Pair}
 use Rattle.cert_text.specs.TreeText.{row_of}
 
-infixl 10 ◌>>=◌
-abbrev pub ◌>>=◌ : {A B : Type 0} → Option A → (A → Option B) → Option B
-o >>= f = option_and_then f o
-
 abbrev pub ends_line : List ℕ → Bool
 ends_line bytes = is_some (literal_at (codes "\n") bytes)
-
--- whether a line feed, which is 10, stands among the bytes
-abbrev pub has_line_end : List ℕ → Bool
-has_line_end bytes = list_any (λ b. b == 10) bytes
 
 unfoldable pub number_at : List ℕ → List ℕ → Option (ℤ × List ℕ)
 number_at sep bytes = do

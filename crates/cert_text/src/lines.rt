@@ -10,8 +10,8 @@ use crate::numbers::numbers;
 use crate::pairs::bound_line;
 use owned_lists::Items;
 use seq_model::{Contact, Node};
-use seq_num::literal;
 use std::alloc::{AllocError, Global};
+use text_lines::{has_line_end, literal};
 
 /// Why a node line isn't read.
 #[derive(Clone, Copy, Debug, PartialEq, Eq)]
@@ -151,7 +151,7 @@ fn node(alloc: Global, form: Form, numbers: &[i128]) -> Result<Node, AllocError>
 fn unread(bytes: &[u8]) -> Stop
     ensures { result ≡ unread bytes.now }
 {
-    if bytes.contains(&b'\n') {
+    if has_line_end(bytes) {
         Stop::Other
     } else {
         Stop::Unended

@@ -3,7 +3,7 @@ ghost use Rattle.std.specs.Option.{option_map};
 ghost use Rattle.cert_text.specs.Lines.{number_at, numbers_at};
 
 use crate::pairs::{ends_line, line_end};
-use seq_num::{literal, whole};
+use text_lines::{literal, whole};
 use std::alloc::AllocError;
 
 /// The number behind a separator, and the bytes after it.

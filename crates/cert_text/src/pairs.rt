@@ -1,9 +1,9 @@
 ghost use Rattle.std.specs.Prelude.{◌≡◌, ◌∷◌, ◌++◌, [], IfOk, IfSome, Some, None, true, false, codes};
-ghost use Rattle.seq_num.specs.Reading.{literal_at};
+ghost use Rattle.text_lines.specs.Reading.{literal_at};
 ghost use Rattle.std.specs.Option.{option_map};
 ghost use Rattle.cert_text.specs.Lines.{pair_at, pairs_at, are_due, bound_at, ends_line};
 
-use seq_num::{literal, whole};
+use text_lines::{literal, whole};
 use std::alloc::AllocError;
 
 /// A pair of a bound line: two whole numbers below 2^100 in size.

@@ -1,22 +1,12 @@
-ghost use Rattle.std.specs.Prelude.{◌≡◌, ◌<◌, ◌^◌, ◌++◌, ◌∷◌, [], IfOk, OnOk, pos, unsigned_abs, map, codes};
+ghost use Rattle.std.specs.Prelude.{◌≡◌, ◌++◌, ◌∷◌, [], IfOk, OnOk, pos, map, codes};
 ghost use Rattle.seq_num.specs.Spelling.{spelling};
 ghost use Rattle.cert_text.specs.TreeText.{number_text, numbers_text, pair_text, pairs_text, pair_of, basis_text, note_text, wide_text, head_text, node_text, nodes_text, tree_text, first_line, extent_word, side_numbers};
 
 use crate::{Head, Kind};
 use seq_model::{Contact, Mult, Node, Tree, WideNote};
-use seq_num::{NoMemory, write_int};
+use seq_num::NoMemory;
 use std::alloc::{AllocError, Global};
-
-// Appends a text and a number.
-fn put_number(to: &mut Vec<u8>, text: &[u8], n: i128) -> Result<(), AllocError>
-    requires { unsigned_abs n < 2 ^ 100 }
-    ensures { OnOk result (to.new.items ≡ to.old.items ++ (text.now ++ spelling n)) }
-{
-    let mut digits = [0; 40];
-    let len = write_int(n, &mut digits);
-    to.extend_from_slice(text)?;
-    to.extend_from_slice(&digits[..len])
-}
+use text_lines::put_number;
 
 // Appends a text and a number of 64 bits at most.
 fn put_count(to: &mut Vec<u8>, text: &[u8], n: u64) -> Result<(), AllocError>

@@ -8,8 +8,9 @@ use Rattle.plan_text.specs.declared.file.PlanFile.{PlanFile}
 use Rattle.plan_text.specs.declared.reading.PlanRead.{PlanRead}
 use Rattle.plan_text.specs.declared.reading.PlanRead.TheVariants as refused
 use Rattle.plan_text.specs.PlanText.{has_places, is_block_due, head_text, body_text, plan_text, begins_place, IsBare, IsPlanFile, IsPlanOf}
-use Rattle.plan_text.specs.Reading.{has_line_end, head_at, body_at, bare, file_at, ended, plan_answer}
-use Rattle.plan_text.proofs.Chains.{step_ok, same_ok, err_is_not_ok}
+use Rattle.text_lines.specs.Reading.{has_line_end}
+use Rattle.plan_text.specs.Reading.{head_at, body_at, bare, file_at, ended, plan_answer}
+use Rattle.text_lines.specs.Laws.Results.{step_ok, same_ok, err_is_not_ok}
 use Rattle.plan_text.proofs.Heads.{TakesHead, head_takes, head_again}
 use Rattle.plan_text.proofs.Bodies.{TakesBody, body_takes, body_again}
 

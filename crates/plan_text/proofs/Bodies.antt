@@ -9,11 +9,11 @@ use Rattle.plan_text.specs.declared.file.State.{State}
 use Rattle.plan_text.specs.declared.file.PlanFile.{PlanFile}
 use Rattle.plan_text.specs.declared.reading.PlanRead.{PlanRead}
 use Rattle.plan_text.specs.declared.reading.PlanRead.TheVariants as refused
-use Rattle.plan_text.specs.PlanText.{number_line, places_text, body_text, IsPlace, IsPlaced, begins_place}
-use Rattle.plan_text.specs.Lines.{number_line_at}
-use Rattle.plan_text.specs.Laws.Reading.{number_line_takes, number_line_again}
+use Rattle.plan_text.specs.PlanText.{places_text, body_text, IsPlace, IsPlaced, begins_place}
+use Rattle.text_lines.specs.Lines.{number_line, number_line_at}
+use Rattle.text_lines.specs.Laws.Lines.{number_line_takes, number_line_again}
 use Rattle.plan_text.specs.Reading.{refusal, divisor_of, places_from, body_at}
-use Rattle.plan_text.proofs.Chains.{step_ok, was_there, was_read, same_ok, err_is_not_ok}
+use Rattle.text_lines.specs.Laws.Results.{step_ok, was_there, was_read, same_ok, err_is_not_ok}
 use Rattle.plan_text.proofs.Divisors.{no_divisor_from, no_divisor_to}
 use Rattle.plan_text.proofs.Placing.{places_takes, places_again}
 

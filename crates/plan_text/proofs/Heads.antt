@@ -1,16 +1,17 @@
 -- The reading of a whole plan: what each part takes, and that it takes what is written.
 use Rattle.std.proofs.Common.{◌≡◌, ℕ, ◌≤◌, pos, List, [], ◌∷◌, ◌++◌, Option, Some, None, Ok, codes, refl, sym, ap, ◌∙◌, subst, arith, append_assoc}
 use Rattle.std.specs.Option.{ok_or}
-use Rattle.seq_num.specs.Reading.{literal_at}
-use Rattle.seq_num.specs.Laws.Reading.{literal_takes, literal_again}
+use Rattle.text_lines.specs.Reading.{literal_at}
+use Rattle.text_lines.specs.Laws.Reading.{literal_takes, literal_again}
 use Rattle.seq_model.specs.declared.what.What.TheVariants as what
 use Rattle.plan_text.specs.declared.file.State.{State}
 use Rattle.plan_text.specs.declared.file.State.TheVariants.{Found, Least, OpenBudget, OpenWide, NoPlan, UndecidedBudget, UndecidedWide}
-use Rattle.plan_text.specs.PlanText.{state_line, number_line, head_text}
-use Rattle.plan_text.specs.Lines.{or_later, first_named, state_line_at, number_line_at}
-use Rattle.plan_text.specs.Laws.Reading.{number_line_takes, number_line_again}
+use Rattle.plan_text.specs.PlanText.{state_line, head_text}
+use Rattle.plan_text.specs.Lines.{or_later, first_named, state_line_at}
+use Rattle.text_lines.specs.Lines.{number_line, number_line_at}
+use Rattle.text_lines.specs.Laws.Lines.{number_line_takes, number_line_again}
 use Rattle.plan_text.specs.Reading.{refusal, head_at}
-use Rattle.plan_text.proofs.Chains.{step_ok, was_there, same_ok}
+use Rattle.text_lines.specs.Laws.Results.{step_ok, was_there, same_ok}
 
 -- ---- the state
 named_takes : (s : State) (o : Option (List ℕ)) (later : Option (State × List ℕ)) (bytes rest : List ℕ) (t : State) → literal_at (state_line s) bytes ≡ o → (later ≡ Some (t, rest) → bytes ≡ state_line t ++ rest) → or_later s o later ≡ Some (t, rest) → bytes ≡ state_line t ++ rest

@@ -1,5 +1,3 @@
-pub mod Chains
-pub mod Options
 pub mod Divisors
 pub mod Placing
 pub mod Heads

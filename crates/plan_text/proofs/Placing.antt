@@ -3,17 +3,18 @@ use Rattle.std.proofs.Common.{◌≡◌, ℕ, zero, suc, ◌+◌, ◌-◌, ◌�
 use Rattle.std.proofs.lemmas.Bool.Decides.{nat_tests}
 use Rattle.std.proofs.lemmas.List.Elements.{All-nil, All-cons, All-head, All-tail}
 use Rattle.seq_num.specs.Spelling.{spelling}
-use Rattle.seq_num.specs.Reading.{literal_at, digit_count, whole_at}
+use Rattle.text_lines.specs.Reading.{literal_at, digit_count, whole_at}
 use Rattle.seq_num.specs.Laws.Spelling.{guard_some}
-use Rattle.seq_num.specs.Laws.Reading.{step_some, literal_takes, literal_again, whole_takes, whole_again}
+use Rattle.text_lines.specs.Laws.Reading.{step_some, literal_takes, literal_again, whole_takes, whole_again}
 use Rattle.seq_model.specs.declared.plan.Place.{Place}
 use Rattle.seq_model.specs.declared.what.What.TheVariants as what
 use Rattle.plan_text.specs.declared.reading.PlanRead.{PlanRead}
 use Rattle.plan_text.specs.PlanText.{place_text, places_text, IsPlace, begins_place}
 use Rattle.plan_text.specs.Lines.{object_at, numerator_at, place_at}
 use Rattle.std.specs.Option.{ok_or}
-use Rattle.plan_text.specs.Reading.{◌>>=◌, refusal, places_from}
-use Rattle.plan_text.proofs.Chains.{step_ok, was_there, err_is_not_ok, same_ok}
+use Rattle.text_lines.specs.Results.{◌>>=◌}
+use Rattle.plan_text.specs.Reading.{refusal, places_from}
+use Rattle.text_lines.specs.Laws.Results.{step_ok, was_there, err_is_not_ok, same_ok}
 
 -- ---- an object number
 record TakesObject (bytes rest : List ℕ) (n : ℕ) : Type 0 where

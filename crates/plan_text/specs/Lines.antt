@@ -1,27 +1,15 @@
 -- What stands on the line at the front of some bytes, and the bytes after that line; None where it is no line of the form.
 --
---   number_line_at keyword most bytes   == the number of 1 to `most` on a line of a keyword and a number
 --   first_named states bytes            == the first of some states whose line it is
 --   state_line_at bytes                 == the state whose line it is
 --   object_at, numerator_at bytes       == a number of a place line, in its range
 --   place_at bytes                      == the place of a place line
-use Rattle.std.specs.Prelude.{ℕ, ℤ, pos, int_lt, unsigned_abs, nat_lt, ◌^◌, List, [], ◌∷◌, ◌||◌, if◌then◌else◌, Option, Some, None, option_and_then, codes}
-use Rattle.seq_num.specs.Reading.{literal_at, whole_at}
+use Rattle.std.specs.Prelude.{ℕ, ℤ, pos, int_lt, unsigned_abs, nat_lt, ◌^◌, List, [], ◌∷◌, ◌||◌, if◌then◌else◌, Option, Some, None, codes}
+use Rattle.text_lines.specs.Reading.{◌>>=◌, literal_at, whole_at}
 use Rattle.seq_model.specs.declared.plan.Place.{Place}
 use Rattle.plan_text.specs.declared.file.State.{State}
 use Rattle.plan_text.specs.declared.file.State.TheVariants.{Found, Least, OpenBudget, OpenWide, NoPlan, UndecidedBudget, UndecidedWide}
 use Rattle.plan_text.specs.PlanText.{state_line}
-
-infixl 10 ◌>>=◌
-abbrev pub ◌>>=◌ : {A B : Type 0} → Option A → (A → Option B) → Option B
-o >>= f = option_and_then f o
-
-unfoldable pub number_line_at : List ℕ → ℕ → List ℕ → Option (ℕ × List ℕ)
-number_line_at keyword most bytes = do
-  a ← literal_at keyword bytes
-  n ← whole_at a
-  rest ← literal_at (codes "\n") n.1
-  if int_lt n.0 (pos 1) || int_lt (pos most) n.0 then None else Some (unsigned_abs n.0, rest)
 
 -- the state, where the rest behind its line is there
 abbrev pub or_later : State → Option (List ℕ) → Option (State × List ℕ) → Option (State × List ℕ)

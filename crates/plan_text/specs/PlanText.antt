@@ -20,7 +20,8 @@
 use Rattle.std.specs.Prelude.{◌≡◌, ℕ, ℤ, pos, ◌<◌, ◌≤◌, ◌^◌, ◌≤ℤ◌, ◌<ℤ◌, unsigned_abs, List, [], ◌∷◌, ◌++◌, length, take, drop, All, Bool, true, false, nat_lt, if◌then◌else◌, is_some, codes}
 use Rattle.std.specs.Int.{◌∣◌}
 use Rattle.seq_num.specs.Spelling.{spelling}
-use Rattle.seq_num.specs.Reading.{literal_at}
+use Rattle.text_lines.specs.Reading.{literal_at}
+pub use Rattle.text_lines.specs.Lines.{number_line}
 use Rattle.seq_model.specs.declared.plan.Place.{Place}
 use Rattle.seq_model.specs.declared.plan.Plan.{Plan}
 use Rattle.plan_text.specs.declared.file.State.{State}
@@ -54,10 +55,6 @@ is_block_due OpenWide extent = true
 is_block_due NoPlan extent = true
 is_block_due UndecidedBudget extent = true
 is_block_due UndecidedWide extent = true
-
--- a keyword and a number
-abbrev pub number_line : List ℕ → ℤ → List ℕ
-number_line keyword n = keyword ++ (spelling n ++ codes "\n")
 
 abbrev pub place_text : Place → List ℕ
 place_text p = codes "place " ++ (spelling (pos p.object) ++ (codes " " ++ (spelling p.x ++ (codes " " ++ (spelling p.y ++ codes "\n")))))

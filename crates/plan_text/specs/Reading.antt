@@ -10,9 +10,10 @@
 --   plan_answer bytes             == the answer: the file and the place where its lines end, or the refusal
 use Rattle.std.specs.Prelude.{ℕ, pos, ◌+◌, ◌-◌, zero, suc, unsigned_abs, ◌==◌, List, [], ◌∷◌, ◌++◌, length, Bool, ◌||◌, if◌then◌else◌, Result, Ok, Err, codes}
 use Rattle.std.specs.Option.{ok_or}
-use Rattle.std.specs.List.{list_any}
 use Rattle.integer_laws.specs.Laws.Divisors.{gcd_is}
-use Rattle.seq_num.specs.Reading.{literal_at}
+use Rattle.text_lines.specs.Results.{◌>>=◌}
+use Rattle.text_lines.specs.Reading.{literal_at, has_line_end}
+use Rattle.text_lines.specs.Lines.{number_line_at}
 use Rattle.seq_model.specs.declared.plan.Place.{Place}
 use Rattle.seq_model.specs.declared.what.What.{What}
 use Rattle.seq_model.specs.declared.what.What.TheVariants as what
@@ -21,16 +22,7 @@ use Rattle.plan_text.specs.declared.file.PlanFile.{PlanFile}
 use Rattle.plan_text.specs.declared.reading.PlanRead.{PlanRead}
 use Rattle.plan_text.specs.declared.reading.PlanRead.TheVariants as refused
 use Rattle.plan_text.specs.PlanText.{has_places, is_block_due, begins_place}
-use Rattle.plan_text.specs.Lines.{number_line_at, state_line_at, place_at}
-
-infixl 10 ◌>>=◌
-abbrev pub ◌>>=◌ : {A B E : Type 0} → Result A E → (A → Result B E) → Result B E
-(Ok x) >>= f = f x
-(Err e) >>= f = Err e
-
--- whether a line feed, which is 10, stands among the bytes
-abbrev pub has_line_end : List ℕ → Bool
-has_line_end bytes = list_any (λ b. b == 10) bytes
+use Rattle.plan_text.specs.Lines.{state_line_at, place_at}
 
 abbrev pub refusal : ℕ → What → List ℕ → PlanRead
 refusal number what bytes = if has_line_end bytes then refused.Line number what else refused.Missing

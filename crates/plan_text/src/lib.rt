@@ -6,7 +6,7 @@
 //! the lines in reading order. A tree block stays unread: it is neither copied nor scanned.
 //!
 //! The top call prints plans by it, and reads those that are to be audited. What is read here is a claim: whether the
-//! places are valid is the audit's business. `number_line` and its laws serve the reader of tree blocks too.
+//! places are valid is the audit's business.
 #![tactic(auto)]
 
 mod file;
@@ -15,7 +15,6 @@ mod reading;
 mod writing;
 
 pub use file::{PlanFile, State};
-pub use lines::number_line;
 pub use reading::{PlanRead, read_plan};
 pub use writing::write_plan;
 

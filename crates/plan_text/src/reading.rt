@@ -2,17 +2,19 @@ ghost use Rattle.std.specs.Prelude.{codes, ◌≡◌, ◌≢◌, ◌≤◌, ◌<
 ghost use Rattle.std.specs.Option.{ok_or};
 ghost use Rattle.std.specs.Result.{result_map_both};
 ghost use Rattle.plan_text.specs.declared.file.PlanFile.{PlanFile};
-ghost use Rattle.seq_num.specs.Reading.{literal_at};
+ghost use Rattle.text_lines.specs.Reading.{literal_at};
+ghost use Rattle.text_lines.specs.Lines.{number_line_at};
 ghost use Rattle.plan_text.specs.PlanText.{begins_place, IsPlace, IsPlanOf};
-ghost use Rattle.plan_text.specs.Lines.{number_line_at, state_line_at, place_at};
-ghost use Rattle.plan_text.specs.Reading.{refusal, has_line_end, bare, head_at, divisor_with, divisor_of, places_from, body_at, file_at, ended, plan_answer};
+ghost use Rattle.plan_text.specs.Lines.{state_line_at, place_at};
+ghost use Rattle.plan_text.specs.Reading.{refusal, bare, head_at, divisor_with, divisor_of, places_from, body_at, file_at, ended, plan_answer};
 
-use crate::lines::{number_line, place_line, state_line};
+use crate::lines::{place_line, state_line};
 use crate::{PlanFile, State};
 use owned_lists::Items;
 use seq_model::{Place, Plan, What};
-use seq_num::{gcd, literal};
+use seq_num::gcd;
 use std::alloc::Global;
+use text_lines::{has_line_end, literal, number_line};
 use thiserror::Error;
 
 /// Why bytes are no plan file.
@@ -29,12 +31,6 @@ pub enum PlanRead {
     Trailing,
     #[error("memory")]
     NoMemory,
-}
-
-fn has_line_end(bytes: &[u8]) -> bool
-    ensures { result ≡ has_line_end bytes.now }
-{
-    bytes.contains(&b'\n')
 }
 
 // Why the due line at the front isn't read.

@@ -1,30 +1,11 @@
-ghost use Rattle.std.specs.Prelude.{◌≡◌, ◌<◌, ◌^◌, ◌++◌, IfOk, OnOk, pos, unsigned_abs, take, All};
-ghost use Rattle.seq_num.specs.Spelling.{spelling};
-ghost use Rattle.plan_text.specs.PlanText.{number_line, place_text, places_text, head_text, body_text, plan_text, IsPlace, IsPlanFile};
+ghost use Rattle.std.specs.Prelude.{◌≡◌, ◌<◌, ◌^◌, ◌++◌, IfOk, OnOk, unsigned_abs, All};
+ghost use Rattle.plan_text.specs.PlanText.{place_text, places_text, head_text, body_text, plan_text, IsPlace, IsPlanFile};
 
 use crate::PlanFile;
 use seq_model::{Place, Plan};
-use seq_num::{NoMemory, write_int};
+use seq_num::NoMemory;
 use std::alloc::{AllocError, Global};
-
-// Appends a text and a number.
-fn put_number(to: &mut Vec<u8>, text: &[u8], n: i128) -> Result<(), AllocError>
-    requires { unsigned_abs n < 2 ^ 100 }
-    ensures { OnOk result (to.new.items ≡ to.old.items ++ (text.now ++ spelling n)) }
-{
-    let mut digits = [0; 40];
-    let len = write_int(n, &mut digits);
-    to.extend_from_slice(text)?;
-    to.extend_from_slice(&digits[..len])
-}
-
-fn put_line(to: &mut Vec<u8>, keyword: &[u8], n: i128) -> Result<(), AllocError>
-    requires { unsigned_abs n < 2 ^ 100 }
-    ensures { OnOk result (to.new.items ≡ to.old.items ++ number_line keyword.now n) }
-{
-    put_number(to, keyword, n)?;
-    to.extend_from_slice(b"\n")
-}
+use text_lines::{put_line, put_number};
 
 fn put_place(to: &mut Vec<u8>, place: &Place) -> Result<(), AllocError>
     requires { IsPlace place.now }

@@ -1,4 +1,3 @@
 pub mod Nearest
 pub mod Spelling
-pub mod Reading
 pub mod Laws

@@ -1,11 +1,9 @@
-//! Whole numbers: exact division that rounds, common divisors, the one decimal spelling of a number, and the first
-//! readers of texts.
+//! Whole numbers: exact division that rounds, common divisors, and the one decimal spelling of a number.
 //!
 //! A quotient rounded down or up is pinned twice: as the word of std that computes it, and by what it means, as
 //! `d * q <= a < d * q + d`. `near_div`, `gcd` and `primitive` are pinned by what they mean, with laws that no other
 //! number fits. That some bytes spell a number is a definition apart from the code: `read_int` answers None exactly for
-//! bytes that spell none, and no bytes spell two numbers. The readers of the front of a text, `literal` and `whole`, are
-//! functions on lists with laws both ways, of which the readers of descriptions, meshes and plans are made.
+//! bytes that spell none, and no bytes spell two numbers.
 //!
 //! Only the laws of the integers lie below: all other crates count, divide and read with this one. No call takes memory.
 #![tactic(auto)]
@@ -13,13 +11,11 @@
 mod division;
 mod divisors;
 mod nearest;
-mod reading;
 mod whole_numbers;
 
 pub use division::{ceil_div, floor_div};
 pub use divisors::{gcd, primitive};
 pub use nearest::near_div;
-pub use reading::{literal, whole};
 use std::alloc::AllocError;
 pub use whole_numbers::{one_spelling, read_int, spelling_digits, write_int};
 
@@ -36,7 +32,6 @@ impl From<AllocError> for NoMemory {
 #[cfg(test)]
 mod tests {
     use super::*;
-    use std::test::Fail;
 
     #[test]
     fn quotients_are_rounded(rt: HostRuntime) {
@@ -66,7 +61,7 @@ mod tests {
     }
 
     #[test]
-    fn numbers_are_read_and_written(rt: HostRuntime) -> Result<(), Fail> {
+    fn numbers_are_read_and_written(rt: HostRuntime) {
         let spelled = [
             ("0", 0),
             ("-1", -1),
@@ -90,10 +85,5 @@ mod tests {
         ] {
             assert_eq!(rt; read_int(text.as_bytes()), None);
         }
-        let rest = literal(b"vertex -20 0\n", b"vertex ").ok_or("no vertex")?;
-        assert_eq!(rt; whole(rest), Some((-20, b" 0\n".as_slice())));
-        assert_eq!(rt; literal(rest, b"vertex "), None);
-        assert_eq!(rt; whole(b"00 "), None);
-        Ok(())
     }
 }

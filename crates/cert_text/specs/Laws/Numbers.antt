@@ -8,9 +8,9 @@ use Rattle.std.proofs.Common.{◌≡◌, ℕ, zero, suc, ◌+◌, ◌-◌, ◌�
 use Rattle.std.proofs.lemmas.List.Elements.{All-nil, All-cons, All-head, All-tail}
 use Rattle.std.specs.Option.{option_map}
 use Rattle.seq_num.specs.Spelling.{spelling}
-use Rattle.seq_num.specs.Reading.{literal_at, digit_count, whole_at}
-use Rattle.seq_num.specs.Laws.Reading.{step_some, literal_takes, literal_again, whole_takes, whole_again}
-use Rattle.cert_text.specs.Lines.{◌>>=◌, ends_line, number_at, numbers_end, numbers_at}
+use Rattle.text_lines.specs.Reading.{◌>>=◌, literal_at, digit_count, whole_at}
+use Rattle.text_lines.specs.Laws.Reading.{step_some, literal_takes, literal_again, whole_takes, whole_again}
+use Rattle.cert_text.specs.Lines.{ends_line, number_at, numbers_end, numbers_at}
 use Rattle.cert_text.specs.TreeText.{number_text, numbers_text}
 
 pub record IsSeparator (sep : List ℕ) : Type 0 where

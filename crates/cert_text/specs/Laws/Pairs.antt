@@ -5,10 +5,10 @@ use Rattle.std.proofs.lemmas.Int.{ints}
 use Rattle.std.proofs.lemmas.List.Elements.{All-nil, All-cons, All-head, All-tail}
 use Rattle.std.specs.Option.{option_map}
 use Rattle.seq_num.specs.Spelling.{spelling}
-use Rattle.seq_num.specs.Reading.{literal_at, digit_count, whole_at}
+use Rattle.text_lines.specs.Reading.{◌>>=◌, literal_at, digit_count, whole_at}
 use Rattle.seq_num.specs.Laws.Spelling.{guard_some}
-use Rattle.seq_num.specs.Laws.Reading.{step_some, literal_takes, literal_again, whole_takes, whole_again}
-use Rattle.cert_text.specs.Lines.{◌>>=◌, ends_line, pair_at, end_at, pairs_at, rises, are_due, bound_at}
+use Rattle.text_lines.specs.Laws.Reading.{step_some, literal_takes, literal_again, whole_takes, whole_again}
+use Rattle.cert_text.specs.Lines.{ends_line, pair_at, end_at, pairs_at, rises, are_due, bound_at}
 use Rattle.cert_text.specs.TreeText.{pair_text, pairs_text, row_of, AreRising, IsBoundLine}
 use Rattle.cert_text.specs.declared.pairs.Pair.{Pair}
 
@@ -232,9 +232,6 @@ pub smaller_rest : (bytes rest : List ℕ) (p : Pair) → pair_at bytes ≡ Some
 smaller_rest bytes rest p read =
     let t = pair_takes bytes rest p read in
     omega (arith, ap length t.spelled, length-append (pair_text p) rest)
-
-pub mapped_some : {A B : Type 0} (f : A → B) (o : Option A) (x : A) (y : Option B) → option_map f o ≡ y → o ≡ Some x → y ≡ Some (f x)
-mapped_some f o x y e h = sym e ∙ ap (option_map f) h
 
 pub with_found : {B : Type 0} (found : List Pair) (now : B → List ℕ) (o : Option B) (y : Option (List ℕ)) → option_map now o ≡ y → option_map {U = List Pair × List ℕ} (λ r. (found, now r)) o ≡ option_map (λ rest. (found, rest)) y
 with_found found now None y e = ap (option_map (λ rest. (found, rest))) e

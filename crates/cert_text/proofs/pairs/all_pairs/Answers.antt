@@ -1,7 +1,8 @@
 use Rattle.std.proofs.Common.{◌≡◌, ◌∷◌, ◌++◌, [], ◌∙◌, ◌<◌, ap, sym, length, length-append, Some, None, refl, arith, rules}
 use Rattle.std.specs.Option.{option_map}
 use Rattle.cert_text.specs.Lines.{pair_at, ends_line}
-use Rattle.cert_text.specs.Laws.Pairs.{loop_more, loop_none, loop_full, loop_ended, smaller_rest, mapped_some, with_found}
+use Rattle.cert_text.specs.Laws.Pairs.{loop_more, loop_none, loop_full, loop_ended, smaller_rest, with_found}
+use Rattle.text_lines.specs.Laws.Reading.{mapped_some}
 use Rattle.cert_text.proofs.pairs.all_pairs.Goals as goal
 
 pub returns-then-len-eq33 : goal.returns-then-len-eq33

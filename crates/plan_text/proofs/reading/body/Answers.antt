@@ -1,9 +1,10 @@
 use Rattle.std.proofs.Common.{◌≡◌, ◌∙◌, ap, sym, true, false, Err, Ok, eqb, pos, FitsSigned, arith, rules}
 use Rattle.std.proofs.lemmas.Int.{to_z-of_z}
 use Rattle.plan_text.specs.declared.file.PlanFile.{PlanFile}
+use Rattle.plan_text.specs.declared.reading.PlanRead.TheVariants as refused
 use Rattle.std.proofs.lemmas.Bool.Decides.{nat_tests}
 use Rattle.plan_text.specs.Reading.{divisor_of}
-use Rattle.plan_text.proofs.Chains.{mapped_ok, mapped_err, answered_ok, answered_err, handed_on}
+use Rattle.text_lines.specs.Laws.Results.{mapped_ok, mapped_err, answered_ok, answered_err, handed_on}
 use Rattle.plan_text.proofs.Bodies.{no_extent, no_scale, no_places, divided, whole_body, made}
 use Rattle.plan_text.proofs.reading.body.Goals as goal
 
@@ -28,7 +29,7 @@ returns-in_err-places c = λ some.
     handed_on _ _ _ _ is (no_places c.args.state c.args.grid c.in_ok-extent.extent c.in_ok-scale.scale c.args.bytes.now c.in_ok-extent.rest.now c.in_ok-scale.rest.now _
     (rw grid at (mapped_ok _ _ _ _ c.due.ensures.value c.in_ok-extent.was))
     (mapped_ok _ _ _ _ c.due-2.ensures.value c.in_ok-scale.was)
-    (answered_err _ _ _ _ c.places.ensures.answer c.in_err-places.was (λ wanting. some (is ∙ ap Err wanting)))))
+    (answered_err refused.NoMemory _ _ _ _ c.places.ensures.answer c.in_err-places.was (λ wanting. some (is ∙ ap Err wanting)))))
 
 pub returns-then-divisor_of-ne1 : goal.returns-then-divisor_of-ne1
 returns-then-divisor_of-ne1 c = λ _.
@@ -38,7 +39,7 @@ returns-then-divisor_of-ne1 c = λ _.
     sym (divided c.args.state c.args.grid c.in_ok-extent.extent c.in_ok-scale.scale c.in_ok-places.places.items c.args.bytes.now c.in_ok-extent.rest.now c.in_ok-scale.rest.now c.in_ok-places.rest.now
     (rw grid at (mapped_ok _ _ _ _ c.due.ensures.value c.in_ok-extent.was))
     (mapped_ok _ _ _ _ c.due-2.ensures.value c.in_ok-scale.was)
-    (answered_ok _ _ _ _ c.places.ensures.answer c.in_ok-places.was)
+    (answered_ok refused.NoMemory _ _ _ _ c.places.ensures.answer c.in_ok-places.was)
     not_one))
 
 pub returns : goal.returns
@@ -52,5 +53,5 @@ returns c = λ _.
     ∙ sym (whole_body c.args.state c.args.grid c.in_ok-extent.extent c.in_ok-scale.scale c.in_ok-places.places.items c.args.bytes.now c.in_ok-extent.rest.now c.in_ok-scale.rest.now c.in_ok-places.rest.now
     (rw grid at (mapped_ok _ _ _ _ c.due.ensures.value c.in_ok-extent.was))
     (mapped_ok _ _ _ _ c.due-2.ensures.value c.in_ok-scale.was)
-    (answered_ok _ _ _ _ c.places.ensures.answer c.in_ok-places.was)
+    (answered_ok refused.NoMemory _ _ _ _ c.places.ensures.answer c.in_ok-places.was)
     one))

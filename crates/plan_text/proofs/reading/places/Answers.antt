@@ -5,7 +5,7 @@ use Rattle.seq_model.specs.declared.what.What.TheVariants as what
 use Rattle.plan_text.specs.PlanText.{IsPlace}
 use Rattle.plan_text.specs.Lines.{place_at}
 use Rattle.plan_text.specs.Reading.{refusal}
-use Rattle.plan_text.proofs.Options.{mapped_some}
+use Rattle.text_lines.specs.Laws.Reading.{mapped_some}
 use Rattle.plan_text.proofs.Placing.{loop_more, loop_none, loop_full, step_end, smaller_rest}
 use Rattle.plan_text.proofs.reading.places.Goals as goal
 

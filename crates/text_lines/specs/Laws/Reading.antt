@@ -1,11 +1,14 @@
 -- The laws of the readers, both ways: what they take is what is written, and what is written they take.
 --
+--   mapped_some      what an option that a call gave says of the definition's, seen through f
 --   step_some        what a step of a chain of readers gave, where the chain gave something
 --   literal_takes    the bytes begin with the text
 --   literal_again    the text is taken from its front; literal_alone, where nothing follows
 --   whole_takes      the bytes begin with the spelling of the number, and no digit follows it
 --   whole_again      a number's spelling is taken from its front, where no digit follows it
-use Rattle.std.specs.Prelude.{◌≡◌, ℕ, ◌+◌, ◌<◌, ◌^◌, ℤ, pos, negsuc, suc, unsigned_abs, List, [], ◌∷◌, ◌++◌, length, take, drop, Bool, true, false, Option, Some, None, option_and_then, decimal, refl}
+--   literal_exact, whole_exact      both ways in one
+--   literal_one, whole_one          what stands at the front determines its value and the bytes after it
+use Rattle.std.specs.Prelude.{◌≡◌, ◌↔◌, ℕ, ◌+◌, ◌<◌, ◌^◌, ℤ, pos, negsuc, suc, unsigned_abs, List, [], ◌∷◌, ◌++◌, length, take, drop, Bool, true, false, Option, Some, None, option_and_then, decimal, refl}
 use Rattle.std.proofs.Common.{sym, ap, ◌∙◌, arith, cond, eqb, get_or, add-one}
 use Rattle.std.proofs.lemmas.List.{take-append-drop, take_at, drop_at, append-nil, get_or_append_left}
 use Rattle.std.proofs.lemmas.Slice.Eq.{bytes_eq-Decides}
@@ -17,8 +20,11 @@ use Rattle.std.specs.Str.Parse.{AllDigits}
 use Rattle.std.specs.Option.{option_map}
 use Rattle.seq_num.specs.Spelling.{spelling, number_of}
 use Rattle.seq_num.specs.Laws.Spelling.{guard_some, number_spells, number_again}
-use Rattle.seq_num.specs.Reading.{literal_at, digit_count, whole_len, whole_at}
+use Rattle.text_lines.specs.Reading.{literal_at, digit_count, whole_len, whole_at, IsWholeAt}
 use Rattle.seq_num.specs.Laws.Digits.{decimal_all_digits, not_empty, each_digit}
+
+pub mapped_some : {A B : Type 0} (f : A → B) (o : Option A) (x : A) (y : Option B) → option_map f o ≡ y → o ≡ Some x → y ≡ Some (f x)
+mapped_some f o x y e h = sym e ∙ ap (option_map f) h
 
 -- a step of a chain of readers that gave something
 pub step_some : {A B : Type 0} (o : Option A) (f : A → Option B) (y : B) → option_and_then f o ≡ Some y → (x : A) × (o ≡ Some x) × (f x ≡ Some y)
@@ -83,19 +89,13 @@ whole_len-append (pos n) rest small z =
     whole_len_plain (decimal n ++ rest) (λ minus. omega arith) ∙ digit_count-append (decimal n) rest (decimal_all_digits n (omega arith)) z
 whole_len-append (negsuc n) rest small z = ap (λ k. k + 1) (digit_count-append (decimal (suc n)) rest (decimal_all_digits (suc n) (omega arith)) z) ∙ add-one (length (decimal (suc n)))
 
--- what `whole_at` takes: the spelling of the number, up to where no digit follows
-pub record TakesWhole (bytes rest : List ℕ) (n : ℤ) : Type 0 where
-  pub spelled : bytes ≡ spelling n ++ rest
-  pub small : unsigned_abs n < 2 ^ 100
-  pub ended : digit_count rest ≡ 0
-
 mapped : (o : Option ℤ) (r : List ℕ) (n : ℤ) (rest : List ℕ) → option_map {U = ℤ × List ℕ} (λ m. (m, r)) o ≡ Some (n, rest) → (o ≡ Some n) × (r ≡ rest)
 mapped None r n rest e = absurd cc
 mapped (Some m) r n rest e =
     let p : (m, r) ≡ (n, rest) = cc in
     (ap (λ (q : ℤ × List ℕ). Some q.0) p, ap (λ (q : ℤ × List ℕ). q.1) p)
 
-pub whole_takes : (bytes rest : List ℕ) (n : ℤ) → whole_at bytes ≡ Some (n, rest) → TakesWhole bytes rest n
+pub whole_takes : (bytes rest : List ℕ) (n : ℤ) → whole_at bytes ≡ Some (n, rest) → IsWholeAt bytes n rest
 unfolding whole_at
 whole_takes bytes rest n e =
     let k = whole_len bytes in
@@ -117,3 +117,21 @@ whole_again n rest small z =
 pub whole_from : (bytes front rest : List ℕ) (k : ℕ) (number : Option ℤ) → k ≡ whole_len bytes → front ≡ take k bytes → rest ≡ drop k bytes → number ≡ number_of front → option_map {U = ℤ × List ℕ} (λ n. (n, rest)) number ≡ whole_at bytes
 unfolding whole_at
 whole_from bytes front rest k number len is_front is_rest is_number = rw (is_rest, is_number, is_front, len) refl
+
+-- ---- both ways in one
+pub literal_exact : (text bytes rest : List ℕ) → (literal_at text bytes ≡ Some rest) ↔ (bytes ≡ text ++ rest)
+literal_exact text bytes rest = (literal_takes text bytes rest, λ e. ap (literal_at text) e ∙ literal_again text rest)
+
+pub whole_exact : (bytes rest : List ℕ) (n : ℤ) → (whole_at bytes ≡ Some (n, rest)) ↔ IsWholeAt bytes n rest
+whole_exact bytes rest n = (whole_takes bytes rest n, λ w. ap whole_at w.spelled ∙ whole_again n rest w.small w.ended)
+
+pub literal_one : (text a b : List ℕ) → text ++ a ≡ text ++ b → a ≡ b
+literal_one text a b e =
+    let p : Some a ≡ Some b = sym (literal_again text a) ∙ ap (literal_at text) e ∙ literal_again text b in
+    cc
+
+pub whole_one : (bytes a b : List ℕ) (m n : ℤ) → IsWholeAt bytes m a → IsWholeAt bytes n b → (m ≡ n) × (a ≡ b)
+whole_one bytes a b m n h k =
+    let some : Some (m, a) ≡ Some (n, b) = sym ((whole_exact bytes a m).1 h) ∙ (whole_exact bytes b n).1 k in
+    let p : (m, a) ≡ (n, b) = cc in
+    (ap (λ (q : ℤ × List ℕ). q.0) p, ap (λ (q : ℤ × List ℕ). q.1) p)

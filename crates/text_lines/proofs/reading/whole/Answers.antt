@@ -2,9 +2,9 @@ use Rattle.std.proofs.Common.{◌≡◌, List, ℕ, ℤ, FitsSigned, rules}
 use Rattle.std.proofs.lemmas.Int.{to_z-of_z}
 use Rattle.std.specs.Option.{option_map}
 use Rattle.seq_num.specs.Laws.Spelling.{number_is}
-use Rattle.seq_num.specs.Laws.Reading.{whole_from}
-use Rattle.seq_num.specs.Reading.{whole_at}
-use Rattle.seq_num.proofs.reading.whole.Goals as goal
+use Rattle.text_lines.specs.Laws.Reading.{whole_from}
+use Rattle.text_lines.specs.Reading.{whole_at}
+use Rattle.text_lines.proofs.reading.whole.Goals as goal
 
 pub returns-in_err-n : goal.returns-in_err-n
 returns-in_err-n c =

@@ -1,8 +1,8 @@
 ghost use Rattle.std.specs.Prelude.{◌≡◌, ◌≤◌, length};
 ghost use Rattle.std.specs.Option.{option_copied, option_map};
-ghost use Rattle.seq_num.specs.Reading.{literal_at, digit_count, whole_len, whole_at};
+ghost use Rattle.text_lines.specs.Reading.{literal_at, digit_count, whole_len, whole_at, has_line_end};
 
-use crate::whole_numbers::read_int;
+use seq_num::read_int;
 
 /// The bytes after a fixed text, where they begin with it.
 #[tactic(auto, unfolding(crate::specs::Reading::literal_at))]
@@ -44,4 +44,11 @@ fn digit_count(bytes: &[u8]) -> usize
         }
     }
     bytes.len()
+}
+
+/// Whether a line ends among the bytes.
+pub fn has_line_end(bytes: &[u8]) -> bool
+    ensures { result ≡ has_line_end bytes.now }
+{
+    bytes.contains(&b'\n')
 }

@@ -1,0 +1,4 @@
+pub mod Results
+pub mod Reading
+pub mod Lines
+pub mod Laws
