@@ -1,5 +1,6 @@
 -- Lemmas over the definitions, for proofs to cite: nothing here has to be believed.
 pub mod Counts
+pub mod Forms
 pub mod Mults
 pub mod Numbers
 pub mod Pairs

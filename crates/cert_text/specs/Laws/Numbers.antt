@@ -177,3 +177,9 @@ smaller_rest sep is bytes rest p read =
 pub with_found : {B : Type 0} (found : List ℤ) (now : B → List ℕ) (o : Option B) (y : Option (List ℕ)) → option_map now o ≡ y → option_map {U = List ℤ × List ℕ} (λ r. (found, now r)) o ≡ option_map (λ rest. (found, rest)) y
 with_found found now None y e = ap (option_map (λ rest. (found, rest))) e
 with_found found now (Some r) y e = ap (option_map (λ rest. (found, rest))) e
+
+-- a number takes bytes, whatever its separator
+pub shorter_rest : (sep bytes rest : List ℕ) (n : ℤ) → number_at sep bytes ≡ Some (n, rest) → length rest < length bytes
+shorter_rest sep bytes rest n read =
+    let t = number_takes sep bytes rest n read in
+    omega (arith, spelling_some n t.spelt, ap length t.spelled, length-append (number_text sep n) rest, length-append sep (spelling n))
