@@ -1,3 +1,4 @@
 pub mod TreeText
 pub mod Lines
+pub mod Nodes
 pub mod Laws

@@ -7,7 +7,9 @@
 use Rattle.std.proofs.Common.{◌≡◌, ℕ, zero, suc, ◌+◌, ◌-◌, ◌≤◌, ◌<◌, ◌^◌, ℤ, pos, negsuc, unsigned_abs, int_lt, ◌≤ℤ◌, ◌<ℤ◌, List, [], ◌∷◌, ◌++◌, length, map, Bool, true, false, cond, eqb, not, ◌&&◌, Option, Some, None, is_some, All, codes, refl, sym, ap, ◌∙◌, subst, arith, append_assoc, append-nil, length-append}
 use Rattle.std.proofs.lemmas.List.Elements.{All-nil, All-cons, All-head, All-tail}
 use Rattle.std.specs.Option.{option_map}
+use Rattle.std.specs.Prelude.{decimal}
 use Rattle.seq_num.specs.Spelling.{spelling}
+use Rattle.seq_num.specs.Laws.Digits.{not_empty}
 use Rattle.text_lines.specs.Reading.{◌>>=◌, literal_at, digit_count, whole_at}
 use Rattle.text_lines.specs.Laws.Reading.{step_some, literal_takes, literal_again, whole_takes, whole_again}
 use Rattle.cert_text.specs.Lines.{ends_line, number_at, numbers_end, numbers_at}
@@ -179,6 +181,10 @@ with_found found now None y e = ap (option_map (λ rest. (found, rest))) e
 with_found found now (Some r) y e = ap (option_map (λ rest. (found, rest))) e
 
 -- a number takes bytes, whatever its separator
+spelling_some : (n : ℤ) → CanBeSpelt n → 1 ≤ length (spelling n)
+spelling_some (pos n) small = omega (arith, not_empty (decimal n) n (omega arith) refl)
+spelling_some (negsuc n) small = omega (arith)
+
 pub shorter_rest : (sep bytes rest : List ℕ) (n : ℤ) → number_at sep bytes ≡ Some (n, rest) → length rest < length bytes
 shorter_rest sep bytes rest n read =
     let t = number_takes sep bytes rest n read in

@@ -1,0 +1,113 @@
+-- Steps of the reading of a tree's lines.
+use Rattle.std.proofs.Common.{◌≡◌, ℕ, zero, suc, ◌+◌, ◌-◌, ◌≤◌, ◌<◌, List, [], ◌∷◌, ◌++◌, ◌⊎◌, inl, inr, length, reverse, replicate, Result, Ok, Err, refl, sym, ap, subst, ◌∙◌, arith, append_assoc, true, false, All, length-append}
+use Rattle.std.proofs.lemmas.List.{reverse-append, length-replicate}
+use Rattle.std.proofs.lemmas.List.Elements.{All-head, All-tail}
+use Rattle.seq_model.specs.declared.tree.Node.{Node}
+use Rattle.seq_model.specs.Trees.{arity, Fills}
+use Rattle.text_lines.specs.Reading.{has_line_end}
+use Rattle.cert_text.specs.Nodes.{Line, most_deep, LinesRead, AreTree, StopsHere, IsRefusedAt}
+use Rattle.cert_text.specs.declared.nodes.Opening.{Opening}
+use Rattle.cert_text.specs.declared.lines.Stop.{Stop}
+use Rattle.cert_text.specs.declared.nodes.Fault.{Fault}
+use Rattle.cert_text.specs.declared.nodes.Fault.TheVariants as faults
+
+-- the depths of the children that are to come of some open splits, the deepest first
+abbrev pub due : List Opening → List ℕ
+due [] = []
+due (o ∷ openings) = replicate o.left o.depth ++ due openings
+
+pub fills_more : (most : ℕ) (nodes : List Node) (node : Node) (todo left : List ℕ) (d : ℕ) → Fills most todo nodes (d ∷ left) → d ≤ most → Fills most todo (nodes ++ node ∷ []) (replicate (arity node) (d + 1) ++ left)
+fills_more most [] node todo left d f h = subst (λ t. Fills most t (node ∷ []) (replicate (arity node) (d + 1) ++ left)) (sym f) (h, refl)
+fills_more most (n ∷ nodes) node [] left d f h = absurd f
+fills_more most (n ∷ nodes) node (e ∷ todo) left d f h = (f.0, fills_more most nodes node (replicate (arity n) (e + 1) ++ todo) left d f.1 h)
+
+pub lines_more : (line : Line) (bytes : List ℕ) (nodes : List Node) (node : Node) (rest after : List ℕ) → LinesRead line bytes nodes rest → line rest ≡ Ok (node, after) → LinesRead line bytes (nodes ++ node ∷ []) after
+lines_more line bytes [] node rest after l e = (after, subst (λ b. line b ≡ Ok (node, after)) (sym l) e, refl)
+lines_more line bytes (n ∷ nodes) node rest after l e = (l.0, l.1, lines_more line l.0 nodes node rest after l.2 e)
+
+-- ---- the first refusal is the only answer
+same_line : (line : Line) (bytes a b : List ℕ) (m n : Node) → line bytes ≡ Ok (m, a) → line bytes ≡ Ok (n, b) → (m ≡ n) × (a ≡ b)
+same_line line bytes a b m n e f =
+    let both : (m, a) ≡ (n, b) = cc (sym e ∙ f) in
+    (ap (λ (p : Node × List ℕ). p.0) both, ap (λ (p : Node × List ℕ). p.1) both)
+
+never_stops : (line : Line) (nodes more : List Node) (bytes rest end todo left : List ℕ) (k : ℕ) (fault : Fault) (start : List ℕ)
+    → LinesRead line bytes nodes rest → Fills most_deep start nodes todo → StopsHere line todo rest k fault → LinesRead line bytes more [] → Fills most_deep start more [] → ⊥
+never_stops line [] [] bytes rest end [] left k fault start l f s m g = absurd (omega (arith, s.0, ap length (sym l ∙ m)))
+never_stops line [] [] bytes rest end (d ∷ todo) left k fault start l f s m g = absurd (omega (arith, ap length (sym f ∙ g)))
+never_stops line [] (n ∷ more) bytes rest end [] left k fault start l f s m g = absurd (subst (λ t. Fills most_deep t (n ∷ more) []) f g)
+never_stops line [] (n ∷ more) bytes rest end (d ∷ todo) left k fault start l f (inl s) m g = absurd (cc (sym (subst (λ b. line b ≡ Ok (n, m.0)) l m.1) ∙ s.1))
+never_stops line [] (n ∷ more) bytes rest end (d ∷ todo) left k fault start l f (inr s) m g =
+    let h = subst (λ t. Fills most_deep t (n ∷ more) []) f g in
+    absurd (omega (arith, h.0, s.3))
+never_stops line (n ∷ nodes) more bytes rest end todo left k fault [] l f s m g = absurd f
+never_stops line (n ∷ nodes) [] bytes rest end todo left k fault (d ∷ start) l f s m g = absurd (omega (arith, ap length g))
+never_stops line (n ∷ nodes) (o ∷ more) bytes rest end todo left k fault (d ∷ start) l f s m g =
+    let same = same_line line bytes m.0 l.0 o n m.1 l.1 in
+    never_stops line nodes more l.0 rest end todo left k fault (replicate (arity n) (d + 1) ++ start) l.2 f.1 s
+    (subst (λ b. LinesRead line b more []) same.1 m.2)
+    (subst (λ w. Fills most_deep (replicate (arity w) (d + 1) ++ start) more []) same.0 g.1)
+
+pub refused_or_read : (line : Line) (bytes : List ℕ) (fault : Fault) (nodes : List Node) → IsRefusedAt line bytes fault → AreTree line bytes nodes → ⊥
+refused_or_read line bytes fault nodes r t = never_stops line r.nodes nodes bytes r.rest [] r.todo [] (length r.nodes) fault (0 ∷ []) r.lines r.fills r.stops t.lines t.whole
+
+-- ---- the openings
+pub turned : (left all : List Opening) (o : Opening) → all ≡ left ++ o ∷ [] → reverse all ≡ o ∷ reverse left
+turned left all o e = ap reverse e ∙ reverse-append left (o ∷ [])
+
+-- where the reading stands before line number `length nodes`
+pub record Reading (line : Line) (bytes : List ℕ) (nodes : List Node) (rest : List ℕ) (openings : List Opening) : Type 0 where
+  pub lines : LinesRead line bytes nodes rest
+  pub fills : Fills most_deep (0 ∷ []) nodes (due (reverse openings))
+
+-- ---- the same by what the calls of a turn say of the openings
+pub record IsOpening (o : Opening) : Type 0 where
+  pub some : 1 ≤ o.left
+  pub depth : o.depth ≤ 1_000_001
+
+pub taken_last : (all left : List Opening) (o : Opening) → all ≡ left ++ o ∷ [] → o.left ≡ 1 → due (reverse all) ≡ o.depth ∷ due (reverse left)
+taken_last all left o e one = ap due (turned left all o e) ∙ ap (λ n. replicate n o.depth ++ due (reverse left)) one
+
+pub taken_more : (all left now : List Opening) (o : Opening) → all ≡ left ++ o ∷ [] → 1 < o.left → now ≡ left ++ record { left = o.left - 1; depth = o.depth } ∷ [] → due (reverse all) ≡ o.depth ∷ due (reverse now)
+taken_more all left now o e more put =
+    let many : o.left ≡ suc (o.left - 1) = omega arith in
+    ap due (turned left all o e) ∙ ap (λ n. replicate n o.depth ++ due (reverse left)) many ∙ ap (λ t. o.depth ∷ t) (sym (ap due (turned left now _ put)))
+
+pub opened : (all now : List Opening) (count depth : ℕ) → now ≡ all ++ record { left = count; depth = depth } ∷ [] → due (reverse now) ≡ replicate count depth ++ due (reverse all)
+opened all now count depth put = ap due (turned all now _ put)
+
+pub not_opened : (all now : List Opening) (count depth : ℕ) → now ≡ all → count ≡ 0 → due (reverse now) ≡ replicate count depth ++ due (reverse all)
+not_opened all now count depth same none = ap (λ l. due (reverse l)) same ∙ ap (λ n. replicate n depth ++ due (reverse all)) (sym none)
+
+pub starts : (line : Line) (bytes : List ℕ) (nodes : List Node) (all : List Opening) → nodes ≡ [] → due (reverse all) ≡ 0 ∷ [] → Reading line bytes nodes bytes all
+starts line bytes nodes all none one = record { lines = subst (λ t. LinesRead line bytes t bytes) (sym none) refl; fills = subst (λ t. Fills most_deep (0 ∷ []) t (due (reverse all))) (sym none) (sym one) }
+
+pub turn : (line : Line) (bytes : List ℕ) (nodes now : List Node) (node : Node) (rest after : List ℕ) (d e count : ℕ) (all left more : List Opening) → Reading line bytes nodes rest all → due (reverse all) ≡ d ∷ due (reverse left)
+    → line rest ≡ Ok (node, after) → d ≤ most_deep → count ≡ arity node → e ≡ d + 1 → due (reverse more) ≡ replicate count e ++ due (reverse left) → now ≡ nodes ++ node ∷ [] → Reading line bytes now after more
+turn line bytes nodes now node rest after d e count all left more r took read h many below opens is = subst (λ t. Reading line bytes t after more) (sym is) (record {
+  lines = lines_more line bytes nodes node rest after r.lines read;
+  fills = subst (Fills most_deep (0 ∷ []) (nodes ++ node ∷ []))
+      (ap (λ k. replicate k (d + 1) ++ due (reverse left)) (sym many) ∙ ap (λ k. replicate count k ++ due (reverse left)) (sym below) ∙ sym opens)
+      (fills_more most_deep nodes node (0 ∷ []) (due (reverse left)) d (subst (Fills most_deep (0 ∷ []) nodes) took r.fills) h);
+})
+
+-- ---- bytes are the lines of one tree at most
+same_trees : (line : Line) (nodes more : List Node) (bytes start : List ℕ) → LinesRead line bytes nodes [] → Fills most_deep start nodes [] → LinesRead line bytes more [] → Fills most_deep start more [] → nodes ≡ more
+same_trees line [] [] bytes start l f m g = refl
+same_trees line [] (n ∷ more) bytes start l f m g = absurd (subst (λ t. Fills most_deep t (n ∷ more) []) f g)
+same_trees line (n ∷ nodes) [] bytes start l f m g = absurd (subst (λ t. Fills most_deep t (n ∷ nodes) []) g f)
+same_trees line (n ∷ nodes) (o ∷ more) bytes [] l f m g = absurd f
+same_trees line (n ∷ nodes) (o ∷ more) bytes (d ∷ start) l f m g =
+    let same = same_line line bytes m.0 l.0 o n m.1 l.1 in
+    ap (λ t. n ∷ t) (same_trees line nodes more l.0 (replicate (arity n) (d + 1) ++ start) l.2 f.1 (subst (λ b. LinesRead line b more []) same.1 m.2) (subst (λ w. Fills most_deep (replicate (arity w) (d + 1) ++ start) more []) same.0 g.1))
+    ∙ ap (λ h. h ∷ more) (sym same.0)
+
+pub one_tree : (line : Line) (bytes : List ℕ) (nodes more : List Node) → AreTree line bytes nodes → AreTree line bytes more → nodes ≡ more
+one_tree line bytes nodes more a b = same_trees line nodes more bytes (0 ∷ []) a.lines a.whole b.lines b.whole
+
+last_of : (left : List Opening) (o : Opening) → All IsOpening (left ++ o ∷ []) → IsOpening o
+last_of [] o h = All-head IsOpening o [] h
+last_of (x ∷ left) o h = last_of left o (All-tail IsOpening x (left ++ o ∷ []) h)
+
+pub taken_one : (all left : List Opening) (o : Opening) → all ≡ left ++ o ∷ [] → All IsOpening all → o.left ≤ 1 → due (reverse all) ≡ o.depth ∷ due (reverse left)
+taken_one all left o e h few = let some = (last_of left o (subst (All IsOpening) e h)).some in taken_last all left o e (omega (arith, some, few))
