@@ -2,6 +2,7 @@
 pub mod Counting
 pub mod Counts
 pub mod Forms
+pub mod Heads
 pub mod Mults
 pub mod Nodes
 pub mod Numbers

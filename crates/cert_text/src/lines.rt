@@ -75,7 +75,7 @@ fn any_below(numbers: &[i128]) -> bool
     false
 }
 
-fn any_far(numbers: &[i128]) -> bool
+pub(crate) fn any_far(numbers: &[i128]) -> bool
     ensures { result ≡ list_any is_far numbers.now }
 {
     for n in numbers {

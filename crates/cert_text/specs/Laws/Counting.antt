@@ -1,5 +1,5 @@
 -- Steps of the reading of a tree's lines.
-use Rattle.std.proofs.Common.{◌≡◌, ℕ, zero, suc, ◌+◌, ◌-◌, ◌≤◌, ◌<◌, List, [], ◌∷◌, ◌++◌, ◌⊎◌, inl, inr, length, reverse, replicate, Result, Ok, Err, refl, sym, ap, subst, ◌∙◌, arith, append_assoc, true, false, All, length-append}
+use Rattle.std.proofs.Common.{◌≡◌, ℕ, zero, suc, ◌+◌, ◌-◌, ◌≤◌, ◌<◌, ◌^◌, List, [], ◌∷◌, ◌++◌, ◌⊎◌, inl, inr, length, reverse, replicate, Result, Ok, Err, refl, sym, ap, subst, ◌∙◌, arith, append_assoc, true, false, All, length-append}
 use Rattle.std.proofs.lemmas.List.{reverse-append, length-replicate}
 use Rattle.std.proofs.lemmas.List.Elements.{All-head, All-tail}
 use Rattle.seq_model.specs.declared.tree.Node.{Node}
@@ -15,6 +15,14 @@ use Rattle.cert_text.specs.declared.nodes.Fault.TheVariants as faults
 abbrev pub due : List Opening → List ℕ
 due [] = []
 due (o ∷ openings) = replicate o.left o.depth ++ due openings
+
+-- the line of a fault is one that a vector can count
+abbrev pub IsNear : Fault → Type 0
+IsNear (faults.Stopped k stop) = k < 2 ^ 63
+IsNear (faults.Deep k) = k < 2 ^ 63
+IsNear (faults.After k) = k < 2 ^ 63
+IsNear faults.Unended = Unit {0}
+IsNear faults.NoMemory = Unit {0}
 
 pub fills_more : (most : ℕ) (nodes : List Node) (node : Node) (todo left : List ℕ) (d : ℕ) → Fills most todo nodes (d ∷ left) → d ≤ most → Fills most todo (nodes ++ node ∷ []) (replicate (arity node) (d + 1) ++ left)
 fills_more most [] node todo left d f h = subst (λ t. Fills most t (node ∷ []) (replicate (arity node) (d + 1) ++ left)) (sym f) (h, refl)

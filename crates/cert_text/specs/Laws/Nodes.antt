@@ -39,7 +39,6 @@ unfolding literal_at
 other_letter a b text bytes e = by (bytes_eq (take (length (a ∷ text)) (b ∷ bytes)) (a ∷ text)) refl
   where
     by : (t : Bool) → bytes_eq (take (length (a ∷ text)) (b ∷ bytes)) (a ∷ text) ≡ t → literal_at (a ∷ text) (b ∷ bytes) ≡ None
-    unfolding literal_at
     by false h = rw h refl
     by true h =
         let same : take (length (a ∷ text)) (b ∷ bytes) ≡ a ∷ text = (bytes_eq-Decides (take (length (a ∷ text)) (b ∷ bytes)) (a ∷ text)).0 h in
@@ -178,3 +177,221 @@ paired_again : (mults : List Mult) (rest : List ℕ) → IsBoundLine (map pair_o
 unfolding paired_at
 paired_again mults rest line spelt =
     rw (Pairs.bound_again (map pair_of mults) rest (pairs_spelt mults spelt line.times) line) (rw (none_far_pair mults spelt, none_big mults spelt) (ap (λ (ms : List Mult). Ok (Nodes.Bound ms, rest)) (mults_again mults)))
+
+-- ---- what is written and read behind a keyword
+abbrev keyword : Form → List ℕ
+keyword Order = codes "order"
+keyword Side = codes "side"
+keyword Cycle = codes "cycle"
+
+record Written (form : Form) (ks : List ℕ) : Type 0 where
+  text : keyword form ++ numbers_text (codes " ") (map pos ks) ≡ node_text (node_of form (map pos ks))
+  spelt : IsSpelt (node_of form (map pos ks))
+
+abbrev IsSmall : ℕ → Type 0
+IsSmall k = k < 2 ^ 32
+
+order_written : (ks : List ℕ) → are_enough Order (map pos ks) ≡ true → All IsSmall ks → Written Order ks
+order_written [] e all = absurd cc
+order_written (a ∷ []) e all = absurd cc
+order_written (a ∷ b ∷ []) e all = record { text = refl; spelt = (All-head IsSmall a (b ∷ []) all, All-head IsSmall b [] (All-tail IsSmall a (b ∷ []) all)) }
+order_written (a ∷ b ∷ c ∷ ks) e all = absurd (grind (arith, nat_tests, e))
+
+side_written : (ks : List ℕ) → length ks ≡ 6 → are_enough Side (map pos ks) ≡ true → All IsSmall ks → Written Side ks
+side_written [] h e all = absurd (omega (arith, h))
+side_written (a ∷ []) h e all = absurd (omega (arith, h))
+side_written (a ∷ b ∷ []) h e all = absurd (omega (arith, h))
+side_written (a ∷ b ∷ c ∷ []) h e all = absurd (omega (arith, h))
+side_written (a ∷ b ∷ c ∷ d ∷ []) h e all = absurd (omega (arith, h))
+side_written (a ∷ b ∷ c ∷ d ∷ j ∷ []) h e all = absurd (omega (arith, h))
+side_written (a ∷ b ∷ c ∷ d ∷ j ∷ k ∷ []) h e all =
+    let some : int_lt (pos 0) (pos k) ≡ true = e in
+    let t1 = All-tail IsSmall a (b ∷ c ∷ d ∷ j ∷ k ∷ []) all in
+    let t2 = All-tail IsSmall b (c ∷ d ∷ j ∷ k ∷ []) t1 in
+    let t3 = All-tail IsSmall c (d ∷ j ∷ k ∷ []) t2 in
+    let t4 = All-tail IsSmall d (j ∷ k ∷ []) t3 in
+    let t5 = All-tail IsSmall j (k ∷ []) t4 in
+    record {
+      text = refl;
+      spelt = (
+        record {
+          i = All-head IsSmall a (b ∷ c ∷ d ∷ j ∷ k ∷ []) all;
+          zi = All-head IsSmall b (c ∷ d ∷ j ∷ k ∷ []) t1;
+          part = All-head IsSmall c (d ∷ j ∷ k ∷ []) t2;
+          zj = All-head IsSmall d (j ∷ k ∷ []) t3;
+          j = All-head IsSmall j (k ∷ []) t4;
+        },
+        grind (arith, nat_tests, ints, some),
+        All-head IsSmall k [] t5,
+      );
+    }
+side_written (a ∷ b ∷ c ∷ d ∷ j ∷ k ∷ l ∷ ks) h e all = absurd (omega (arith, h))
+
+cycle_written : (ks : List ℕ) → length ks ≤ 16 → are_enough Cycle (map pos ks) ≡ true → All IsSmall ks → Written Cycle ks
+cycle_written [] few e all = absurd cc
+cycle_written (k ∷ ks) few e all =
+    let same = again (k ∷ ks) in
+    record {
+      text = ap (λ l. codes "cycle" ++ numbers_text (codes " ") (map pos l)) (sym same);
+      spelt = subst (λ l. IsSpelt (Nodes.Cycle l)) (sym same) (omega arith, few, all);
+    }
+
+six : (ks : List ℕ) → are_enough Side (map pos ks) ≡ true → length ks ≡ 6
+six ks e =
+    let b = and_true (eqb (length (map pos ks)) 6) (int_lt (pos 0) (number_or (map pos ks) 5)) e in
+    let h = b.0 in
+    let n : length (map pos ks) ≡ 6 = grind (arith, nat_tests, h) in
+    omega (arith, n, length-positions ks)
+
+written : (form : Form) (ks : List ℕ) → length ks ≤ room_of form → are_enough form (map pos ks) ≡ true → All IsSmall ks → Written form ks
+written Order ks few e all = order_written ks e all
+written Side ks few e all = side_written ks (six ks e) e all
+written Cycle ks few e all = cycle_written ks few e all
+
+pub record TakesLine (bytes after : List ℕ) (n : Node) : Type 0 where
+  pub spelled : bytes ≡ node_text n ++ after
+  pub spelt : IsSpelt n
+
+formed_line : (form : Form) (bytes rest after : List ℕ) (n : Node) → bytes ≡ keyword form ++ rest → formed_at form rest ≡ Ok (n, after) → TakesLine bytes after n
+formed_line form bytes rest after n is e =
+    let t = formed_takes form rest after n e in
+    let ks = map unsigned_abs t.numbers in
+    let same : map pos ks ≡ t.numbers = counted t.numbers t.counts in
+    let few : length ks ≤ room_of form = omega (arith, t.takes.few, ap length same, length-positions ks) in
+    let enough : are_enough form (map pos ks) ≡ true = ap (are_enough form) same ∙ t.takes.enough in
+    let w = written form ks few enough (all_small t.numbers t.counts) in
+    let n_is : n ≡ node_of form (map pos ks) = t.is ∙ ap (node_of form) (sym same) in
+    let text : keyword form ++ numbers_text (codes " ") t.numbers ≡ node_text n = ap (λ l. keyword form ++ numbers_text (codes " ") l) (sym same) ∙ (w.text ∙ ap node_text (sym n_is)) in
+    record {
+      spelled = is ∙ (ap (λ l. keyword form ++ l) t.takes.spelled ∙ (sym (append_assoc (keyword form) (numbers_text (codes " ") t.numbers) after) ∙ ap (λ l. l ++ after) text));
+      spelt = subst IsSpelt (sym n_is) w.spelt;
+    }
+
+paired_line : (bytes rest after : List ℕ) (n : Node) → bytes ≡ codes "bound" ++ rest → paired_at rest ≡ Ok (n, after) → TakesLine bytes after n
+paired_line bytes rest after n is e =
+    let t = paired_takes rest after n e in
+    let all : TakesLine bytes after (Nodes.Bound t.mults) = record {
+      spelled = is ∙ (ap (λ l. codes "bound" ++ l) t.spelled ∙ sym (append_assoc (codes "bound") (pairs_text (map pair_of t.mults)) after));
+      spelt = (t.line, t.spelt);
+    } in
+    subst (TakesLine bytes after) (sym t.is) all
+
+abbrev pending_read : List ℕ → Read
+pending_read rest = Ok (Nodes.Pending, rest)
+
+abbrev nothing : List ℕ → Read
+nothing bytes = Err (unread bytes)
+
+pending_line : (bytes rest after : List ℕ) (n : Node) → bytes ≡ codes "pending\n" ++ rest → pending_read rest ≡ Ok (n, after) → TakesLine bytes after n
+pending_line bytes rest after n is e =
+    let both : (Nodes.Pending, rest) ≡ (n, after) = cc in
+    subst (λ (p : Node × List ℕ). TakesLine bytes p.1 p.0) both (record { spelled = is; spelt = tt })
+
+abbrev Found : List ℕ → List ℕ → (List ℕ → Read) → Node × List ℕ → Type 0
+Found word bytes f y = (rest : List ℕ) × (literal_at word bytes ≡ Some rest) × (f rest ≡ Ok y)
+
+fifth : (bytes after : List ℕ) (n : Node) → (Found (codes "pending\n") bytes pending_read (n, after) ⊎ (nothing bytes ≡ Ok (n, after))) → TakesLine bytes after n
+fifth bytes after n (inl f) = pending_line bytes f.0 after n (literal_takes (codes "pending\n") bytes f.0 f.1) f.2
+fifth bytes after n (inr e) = absurd cc
+
+fourth : (bytes after : List ℕ) (n : Node) (later : Read) → (later ≡ Ok (n, after) → TakesLine bytes after n) → (Found (codes "cycle") bytes (formed_at Cycle) (n, after) ⊎ (later ≡ Ok (n, after))) → TakesLine bytes after n
+fourth bytes after n later next (inl f) = formed_line Cycle bytes f.0 after n (literal_takes (codes "cycle") bytes f.0 f.1) f.2
+fourth bytes after n later next (inr e) = next e
+
+third : (bytes after : List ℕ) (n : Node) (later : Read) → (later ≡ Ok (n, after) → TakesLine bytes after n) → (Found (codes "bound") bytes paired_at (n, after) ⊎ (later ≡ Ok (n, after))) → TakesLine bytes after n
+third bytes after n later next (inl f) = paired_line bytes f.0 after n (literal_takes (codes "bound") bytes f.0 f.1) f.2
+third bytes after n later next (inr e) = next e
+
+second : (bytes after : List ℕ) (n : Node) (later : Read) → (later ≡ Ok (n, after) → TakesLine bytes after n) → (Found (codes "side") bytes (formed_at Side) (n, after) ⊎ (later ≡ Ok (n, after))) → TakesLine bytes after n
+second bytes after n later next (inl f) = formed_line Side bytes f.0 after n (literal_takes (codes "side") bytes f.0 f.1) f.2
+second bytes after n later next (inr e) = next e
+
+first : (bytes after : List ℕ) (n : Node) (later : Read) → (later ≡ Ok (n, after) → TakesLine bytes after n) → (Found (codes "order") bytes (formed_at Order) (n, after) ⊎ (later ≡ Ok (n, after))) → TakesLine bytes after n
+first bytes after n later next (inl f) = formed_line Order bytes f.0 after n (literal_takes (codes "order") bytes f.0 f.1) f.2
+first bytes after n later next (inr e) = next e
+
+pub line_takes : (bytes after : List ℕ) (n : Node) → line_at bytes ≡ Ok (n, after) → TakesLine bytes after n
+unfolding line_at
+line_takes bytes after n e =
+    first bytes after n _ (λ e2. second bytes after n _ (λ e3. third bytes after n _ (λ e4. fourth bytes after n _ (λ e5. fifth bytes after n
+    (named_ok (literal_at (codes "pending\n") bytes) pending_read (nothing bytes) (n, after) e5))
+    (named_ok (literal_at (codes "cycle") bytes) (formed_at Cycle) _ (n, after) e4))
+    (named_ok (literal_at (codes "bound") bytes) paired_at _ (n, after) e3))
+    (named_ok (literal_at (codes "side") bytes) (formed_at Side) _ (n, after) e2))
+    (named_ok (literal_at (codes "order") bytes) (formed_at Order) _ (n, after) e)
+
+-- ---- a line that is written
+order_again : (rest : List ℕ) → line_at (codes "order" ++ rest) ≡ formed_at Order rest
+unfolding line_at
+order_again rest = rw (literal_again (codes "order") rest) refl
+
+side_again : (rest : List ℕ) → line_at (codes "side" ++ rest) ≡ formed_at Side rest
+unfolding line_at
+side_again rest = rw (other_letter 111 115 (codes "rder") (codes "ide" ++ rest) refl) (rw (literal_again (codes "side") rest) refl)
+
+bound_again : (rest : List ℕ) → line_at (codes "bound" ++ rest) ≡ paired_at rest
+unfolding line_at
+bound_again rest =
+    rw (other_letter 111 98 (codes "rder") (codes "ound" ++ rest) refl) (rw (other_letter 115 98 (codes "ide") (codes "ound" ++ rest) refl) (rw (literal_again (codes "bound") rest) refl))
+
+cycle_again : (rest : List ℕ) → line_at (codes "cycle" ++ rest) ≡ formed_at Cycle rest
+unfolding line_at
+cycle_again rest =
+    rw (other_letter 111 99 (codes "rder") (codes "ycle" ++ rest) refl) (rw (other_letter 115 99 (codes "ide") (codes "ycle" ++ rest) refl) (rw (other_letter 98 99 (codes "ound") (codes "ycle" ++ rest) refl)
+    (rw (literal_again (codes "cycle") rest) refl)))
+
+pending_again : (rest : List ℕ) → line_at (codes "pending\n" ++ rest) ≡ Ok (Nodes.Pending, rest)
+unfolding line_at
+pending_again rest =
+    rw (other_letter 111 112 (codes "rder") (codes "ending\n" ++ rest) refl) (rw (other_letter 115 112 (codes "ide") (codes "ending\n" ++ rest) refl) (rw (other_letter 98 112 (codes "ound") (codes "ending\n" ++ rest) refl)
+    (rw (other_letter 99 112 (codes "ycle") (codes "ending\n" ++ rest) refl) (rw (literal_again (codes "pending\n") rest) refl))))
+
+two : (a b : ℕ) → IsSmall a → IsSmall b → All IsSmall (a ∷ b ∷ [])
+two a b h k = All-cons IsSmall a (b ∷ []) h (All-cons IsSmall b [] k (All-nil IsSmall))
+
+pub line_again : (n : Node) (rest : List ℕ) → IsSpelt n → line_at (node_text n ++ rest) ≡ Ok (n, rest)
+line_again (Nodes.Order i j) rest s =
+    ap line_at (append_assoc (codes "order") (numbers_text (codes " ") (pos i ∷ pos j ∷ [])) rest)
+    ∙ (order_again (numbers_text (codes " ") (pos i ∷ pos j ∷ []) ++ rest) ∙ formed_again Order (i ∷ j ∷ []) rest (two i j s.0 s.1) (omega arith) refl)
+line_again (Nodes.Side c k) rest s =
+    let all = All-cons IsSmall c.i (c.zi ∷ c.part ∷ c.zj ∷ c.j ∷ k ∷ []) s.0.i (All-cons IsSmall c.zi (c.part ∷ c.zj ∷ c.j ∷ k ∷ []) s.0.zi
+    (All-cons IsSmall c.part (c.zj ∷ c.j ∷ k ∷ []) s.0.part (All-cons IsSmall c.zj (c.j ∷ k ∷ []) s.0.zj (two c.j k s.0.j s.2)))) in
+    let more = s.1 in
+    let some : int_lt (pos 0) (pos k) ≡ true = grind (arith, nat_tests, ints, more) in
+    ap line_at (append_assoc (codes "side") (numbers_text (codes " ") (side_numbers c k)) rest)
+    ∙ (side_again (numbers_text (codes " ") (side_numbers c k) ++ rest) ∙ formed_again Side (c.i ∷ c.zi ∷ c.part ∷ c.zj ∷ c.j ∷ k ∷ []) rest all (omega arith) some)
+line_again (Nodes.Bound mults) rest s =
+    ap line_at (append_assoc (codes "bound") (pairs_text (map pair_of mults)) rest) ∙ (bound_again (pairs_text (map pair_of mults) ++ rest) ∙ paired_again mults rest s.0 s.1)
+line_again (Nodes.Cycle objects) rest s =
+    let some = s.0 in
+    let zero : eqb (length (map pos objects)) 0 ≡ false = (let l = length-positions objects in grind (arith, nat_tests, some, l)) in
+    ap line_at (append_assoc (codes "cycle") (numbers_text (codes " ") (map pos objects)) rest)
+    ∙ (cycle_again (numbers_text (codes " ") (map pos objects) ++ rest) ∙ (formed_again Cycle objects rest s.2 s.1 (ap not zero) ∙ ap (λ (l : List ℕ). Ok (Nodes.Cycle l, rest)) (again objects)))
+line_again Nodes.Pending rest s = pending_again rest
+
+-- ---- a line takes bytes
+some_text : (n : Node) → 1 ≤ length (node_text n)
+some_text (Nodes.Order i j) = omega (arith, length-append (codes "order") (numbers_text (codes " ") (pos i ∷ pos j ∷ [])))
+some_text (Nodes.Side c k) = omega (arith, length-append (codes "side") (numbers_text (codes " ") (side_numbers c k)))
+some_text (Nodes.Bound mults) = omega (arith, length-append (codes "bound") (pairs_text (map pair_of mults)))
+some_text (Nodes.Cycle objects) = omega (arith, length-append (codes "cycle") (numbers_text (codes " ") (map pos objects)))
+some_text Nodes.Pending = omega arith
+
+pub line_shorter : (bytes after : List ℕ) (n : Node) → line_at bytes ≡ Ok (n, after) → length after < length bytes
+line_shorter bytes after n e = omega (arith, ap length (line_takes bytes after n e).spelled, length-append (node_text n) after, some_text n)
+
+-- ---- the lines of some nodes
+pub nodes_take : (nodes : List Node) (bytes rest : List ℕ) → LinesRead line_at bytes nodes rest → (bytes ≡ nodes_text nodes ++ rest) × All IsSpelt nodes
+nodes_take [] bytes rest l = (l, All-nil IsSpelt)
+nodes_take (n ∷ nodes) bytes rest l =
+    let t = line_takes bytes l.0 n l.1 in
+    let m = nodes_take nodes l.0 rest l.2 in
+    (t.spelled ∙ (ap (λ r. node_text n ++ r) m.0 ∙ sym (append_assoc (node_text n) (nodes_text nodes) rest)), All-cons IsSpelt n nodes t.spelt m.1)
+
+pub nodes_again : (nodes : List Node) (rest : List ℕ) → All IsSpelt nodes → LinesRead line_at (nodes_text nodes ++ rest) nodes rest
+nodes_again [] rest all = refl
+nodes_again (n ∷ nodes) rest all = (
+  nodes_text nodes ++ rest,
+  ap line_at (append_assoc (node_text n) (nodes_text nodes) rest) ∙ line_again n (nodes_text nodes ++ rest) (All-head IsSpelt n nodes all),
+  nodes_again nodes rest (All-tail IsSpelt n nodes all),
+)
