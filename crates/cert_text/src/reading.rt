@@ -41,11 +41,9 @@ fn refused(before: u64, fault: Fault) -> CertRead
     }
 }
 
-/// The head and the tree of a block of this kind. Takes memory by the lines that are read, and keeps a stack of its own.
-pub fn read_tree(alloc: Global, bytes: &[u8], kind: Kind) -> Result<(Head, Tree), CertRead>
+fn read_block(alloc: Global, bytes: &[u8], kind: Kind) -> Result<(Head, Tree), CertRead>
     ensures read { IfOk result (λ r. IsTreeText bytes.now kind r.0 r.1) }
     ensures refused { IfErr result (λ e. e ≢ CertRead.NoMemory → IsRefusedTree bytes.now kind e) }
-    ensures all { (head : Head) (tree : Tree) → IsTreeText bytes.now kind head tree → result ≢ Err CertRead.NoMemory → result ≡ Ok (head, tree) }
 {
     let (head, rest) = read_head(alloc, bytes, kind)?;
     match read_nodes(alloc, rest) {
@@ -57,4 +55,13 @@ pub fn read_tree(alloc: Global, bytes: &[u8], kind: Kind) -> Result<(Head, Tree)
         )),
         Err(fault) => Err(refused(before(kind), fault)),
     }
+}
+
+/// The head and the tree of a block of this kind. Takes memory by the lines that are read, and keeps a stack of its own.
+pub fn read_tree(alloc: Global, bytes: &[u8], kind: Kind) -> Result<(Head, Tree), CertRead>
+    ensures read { IfOk result (λ r. IsTreeText bytes.now kind r.0 r.1) }
+    ensures refused { IfErr result (λ e. e ≢ CertRead.NoMemory → IsRefusedTree bytes.now kind e) }
+    ensures all { (head : Head) (tree : Tree) → IsTreeText bytes.now kind head tree → result ≢ Err CertRead.NoMemory → result ≡ Ok (head, tree) }
+{
+    read_block(alloc, bytes, kind)
 }

@@ -72,7 +72,7 @@ formed_takes form rest after n e = by (form_at form rest) refl e
     by None h e = absurd cc
     by (Some ns) h e = far ns.0 ns.1 (list_any is_far ns.0) h refl e
 
-spelt_of : (ks : List ℕ) → All (λ k. k < 2 ^ 32) ks → All CanBeSpelt (map pos ks)
+pub spelt_of : (ks : List ℕ) → All (λ k. k < 2 ^ 32) ks → All CanBeSpelt (map pos ks)
 spelt_of [] all = All-nil CanBeSpelt
 spelt_of (k ∷ ks) all =
     let low : k < 2 ^ 32 = All-head (λ (k : ℕ). k < 2 ^ 32) k ks all in

@@ -82,7 +82,7 @@ step_done sep room bytes h = rw h refl
 no_end_yet : (sep : List ℕ) → IsSeparator sep → (n : ℤ) (rest : List ℕ) → ends_line (number_text sep n ++ rest) ≡ false
 no_end_yet sep is n rest = ap ends_line (append_assoc sep (spelling n) rest) ∙ is.within (spelling n ++ rest)
 
-starts_plain : (sep : List ℕ) → IsSeparator sep → (ps : List ℤ) (rest : List ℕ) → digit_count (numbers_text sep ps ++ rest) ≡ 0
+pub starts_plain : (sep : List ℕ) → IsSeparator sep → (ps : List ℤ) (rest : List ℕ) → digit_count (numbers_text sep ps ++ rest) ≡ 0
 starts_plain sep is [] rest = refl
 starts_plain sep is (p ∷ ps) rest =
     ap digit_count (append_assoc (number_text sep p) (numbers_text sep ps) rest ∙ append_assoc sep (spelling p) (numbers_text sep ps ++ rest)) ∙ is.plain (spelling p ++ (numbers_text sep ps ++ rest))
