@@ -1,4 +1,4 @@
-use seq_model::{WideNote, What};
+use seq_model::{What, WideNote};
 use thiserror::Error;
 
 /// What a tree block is of.

@@ -57,7 +57,10 @@ fn wide_start(bytes: &[u8]) -> Option<(Wide, &[u8])>
 
 // A wide line, but for the numbers of its basis behind the first, which are found besides.
 #[tactic(auto, unfolding(crate::specs::Heads::wide_at))]
-fn wide_line<'a>(found: &mut Vec<i128>, bytes: &'a [u8]) -> Result<Option<(Wide, &'a [u8])>, AllocError>
+fn wide_line<'a>(
+    found: &mut Vec<i128>,
+    bytes: &'a [u8],
+) -> Result<Option<(Wide, &'a [u8])>, AllocError>
     requires { found.old.items ≡ [] }
     ensures { IfOk result (λ r. option_map (λ x. ((x.0, found.new.items), x.1.now)) r ≡ wide_at bytes.now) }
 {
@@ -153,10 +156,24 @@ pub(crate) fn read_head(alloc: Global, bytes: &[u8], kind: Kind) -> Result<(Head
     };
     let extent = extent as u32;
     match kind {
-        Kind::Certificate | Kind::OpenBudget => Ok((Head { kind, extent, wide: None }, after)),
+        Kind::Certificate | Kind::OpenBudget => Ok((
+            Head {
+                kind,
+                extent,
+                wide: None,
+            },
+            after,
+        )),
         Kind::OpenWide => {
             let (note, after) = note_line(alloc, after)?;
-            Ok((Head { kind, extent, wide: Some(note) }, after))
+            Ok((
+                Head {
+                    kind,
+                    extent,
+                    wide: Some(note),
+                },
+                after,
+            ))
         }
     }
 }

@@ -88,7 +88,11 @@ pub(crate) fn any_far(numbers: &[i128]) -> bool
 
 // The numbers of a line of this form, behind its keyword, and the bytes after that line.
 #[tactic(auto, unfolding(crate::specs::Lines::form_at))]
-fn form_line<'a>(found: &mut Vec<i128>, form: Form, bytes: &'a [u8]) -> Result<Option<&'a [u8]>, AllocError>
+fn form_line<'a>(
+    found: &mut Vec<i128>,
+    form: Form,
+    bytes: &'a [u8],
+) -> Result<Option<&'a [u8]>, AllocError>
     requires { found.old.items ≡ [] }
     ensures { IfOk result (λ r. option_map (λ rest. (found.new.items, rest.now)) r ≡ form_at form bytes.now) }
 {

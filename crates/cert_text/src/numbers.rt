@@ -3,8 +3,8 @@ ghost use Rattle.std.specs.Option.{option_map};
 ghost use Rattle.cert_text.specs.Lines.{number_at, numbers_at};
 
 use crate::pairs::{ends_line, line_end};
-use text_lines::{literal, whole};
 use std::alloc::AllocError;
+use text_lines::{literal, whole};
 
 /// The number behind a separator, and the bytes after it.
 #[tactic(auto, unfolding(crate::specs::Lines::number_at))]

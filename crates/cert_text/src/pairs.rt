@@ -3,8 +3,8 @@ ghost use Rattle.text_lines.specs.Reading.{literal_at};
 ghost use Rattle.std.specs.Option.{option_map};
 ghost use Rattle.cert_text.specs.Lines.{pair_at, pairs_at, are_due, bound_at, ends_line};
 
-use text_lines::{literal, whole};
 use std::alloc::AllocError;
+use text_lines::{literal, whole};
 
 /// A pair of a bound line: two whole numbers below 2^100 in size.
 #[derive(Clone, Copy, Debug, PartialEq, Eq)]
@@ -76,7 +76,10 @@ fn are_due(pairs: &[Pair]) -> bool
 
 /// The pairs of a bound line, behind its keyword, and the bytes after that line.
 #[tactic(auto, unfolding(crate::specs::Lines::bound_at))]
-pub(crate) fn bound_line<'a>(found: &mut Vec<Pair>, bytes: &'a [u8]) -> Result<Option<&'a [u8]>, AllocError>
+pub(crate) fn bound_line<'a>(
+    found: &mut Vec<Pair>,
+    bytes: &'a [u8],
+) -> Result<Option<&'a [u8]>, AllocError>
     requires { found.old.items ≡ [] }
     ensures { IfOk result (λ r. option_map (λ rest. (found.new.items, rest.now)) r ≡ bound_at bytes.now) }
 {

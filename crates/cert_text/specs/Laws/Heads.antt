@@ -199,18 +199,23 @@ start_again : (w : Wide) (rest : List ℕ) → CanBeSpelt w.node → CanBeSpelt 
     → wide_start_at (codes "wide " ++ (spelling w.node ++ (number_text (codes " ") w.row ++ (number_text (codes " ") w.first ++ rest)))) ≡ Some (w, rest)
 unfolding wide_start_at
 start_again w rest n r f ended =
-    rw (literal_again (codes "wide ") (spelling w.node ++ (number_text (codes " ") w.row ++ (number_text (codes " ") w.first ++ rest))),
+    rw (
+      literal_again (codes "wide ") (spelling w.node ++ (number_text (codes " ") w.row ++ (number_text (codes " ") w.first ++ rest))),
       whole_again w.node (number_text (codes " ") w.row ++ (number_text (codes " ") w.first ++ rest)) n refl,
       number_again (codes " ") w.row (number_text (codes " ") w.first ++ rest) r refl,
-      number_again (codes " ") w.first rest f ended) refl
+      number_again (codes " ") w.first rest f ended,
+    ) refl
 
 wide_again : (w : Wide) (more : List ℤ) (rest : List ℕ) → CanBeSpelt w.node → CanBeSpelt w.row → CanBeSpelt w.first → All CanBeSpelt more → is_due w more ≡ true
     → wide_at (codes "wide " ++ (spelling w.node ++ (number_text (codes " ") w.row ++ (number_text (codes " ") w.first ++ (numbers_text (codes ",") more ++ rest))))) ≡ Some ((w, more), rest)
 unfolding wide_at
 wide_again w more rest n r f all due =
     let few : length more ≤ length (numbers_text (codes ",") more ++ rest) = omega (arith, many_numbers (codes ",") comma_is more, length-append (numbers_text (codes ",") more) rest) in
-    rw (start_again w (numbers_text (codes ",") more ++ rest) n r f (starts_plain (codes ",") comma_is more rest),
-      numbers_again (codes ",") comma_is more (length (numbers_text (codes ",") more ++ rest)) rest all few, due) refl
+    rw (
+      start_again w (numbers_text (codes ",") more ++ rest) n r f (starts_plain (codes ",") comma_is more rest),
+      numbers_again (codes ",") comma_is more (length (numbers_text (codes ",") more ++ rest)) rest all few,
+      due,
+    ) refl
 
 note_of_again : (node row first : ℕ) (bs rest : List ℕ) → node < 2 ^ 62 → row < 2 ^ 32 → AreRising (negsuc 0) (map pos (first ∷ bs)) → All (λ k. k < 2 ^ 32) (first ∷ bs)
     → note_at (note_text (record { node = node; basis = first ∷ bs; row = row }) ++ rest) ≡ Ok (record { node = node; basis = first ∷ bs; row = row }, rest)
