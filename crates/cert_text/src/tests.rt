@@ -22,8 +22,7 @@ fn see_again(rt: &impl Abort, alloc: Global, text: &[u8], kind: Kind) -> Result<
     Ok(())
 }
 
-static READ: [(&[u8], Kind); 6] = [
-    (TWO_CUBES, Certificate),
+static READ: [(&[u8], Kind); 5] = [
     (b"opentree 1\ntried 1\npending\n", OpenBudget),
     (
         b"opentree 1\ntried 1000\nside 4294967295 1 2 3 4 1\ncycle 5 4294967295\n",
@@ -44,6 +43,11 @@ static READ: [(&[u8], Kind); 6] = [
 ];
 
 #[test]
+fn a_certificate_is_read_and_written_again(rt: HostRuntime) -> Result<(), Fail> {
+    see_again(&rt, rt.alloc(), TWO_CUBES, Certificate)
+}
+
+#[test]
 fn blocks_are_read_and_written_again(rt: HostRuntime) -> Result<(), Fail> {
     for (text, kind) in &READ {
         see_again(&rt, rt.alloc(), text, *kind)?;
@@ -62,7 +66,7 @@ fn every_proper_prefix_is_truncated(rt: HostRuntime) {
 }
 
 // what stands behind `certificate 1`, and why it is refused
-static REFUSED: [(&[u8], CertRead); 34] = [
+static REFUSED: [(&[u8], CertRead); 40] = [
     // the extent
     (b"tried 45\n", Line(2, Extent)),
     (b"excludes 0\n", Line(2, Extent)),
@@ -70,6 +74,7 @@ static REFUSED: [(&[u8], CertRead); 34] = [
     (b"excludes 045\n", Line(2, Extent)),
     (b"excludes 45 \n", Line(2, Extent)),
     (b"excludes 45", Truncated),
+    (b"excludes 45\r\n", Line(2, Extent)),
     // the form of a node line
     (b"excludes 45\n\n", Line(3, Node)),
     (b"excludes 45\norder 0 1 2\n", Line(3, Node)),
@@ -83,6 +88,9 @@ static REFUSED: [(&[u8], CertRead); 34] = [
     (b"excludes 45\nbound 1:1 0:1\n", Line(3, Node)),
     (b"excludes 45\nbound 1:1 1:1\n", Line(3, Node)),
     (b"excludes 45\nbound 1:-1\n", Line(3, Node)),
+    (b"excludes 45\nbound 0 1\n", Line(3, Node)),
+    (b"excludes 45\nbound 0:1,4:1\n", Line(3, Node)),
+    (b"excludes 45\nside -1 0 1 0 4294967296 1\n", Line(3, Node)),
     (
         b"excludes 45\nbound 0:1 1:1 2:1 3:1 4:1 5:1 6:1 7:1 8:1 9:1 10:1 11:1 12:1 13:1 14:1 15:1 16:1 17:1 18:1 19:1 20:1 21:1 22:1 23:1 24:1 25:1 26:1 27:1 28:1 29:1 30:1 31:1 32:1 33:1\n",
         Line(3, Node),
@@ -101,6 +109,11 @@ static REFUSED: [(&[u8], CertRead); 34] = [
     // its numbers, and its multipliers
     (b"excludes 45\norder 0 4294967296\n", Line(3, Range)),
     (b"excludes 45\ncycle 0 4294967296\n", Line(3, Range)),
+    (b"excludes 45\nside 0 0 1 0 1 4294967296\n", Line(3, Range)),
+    (
+        b"excludes 45\nbound 4294967295:1 4294967296:1\n",
+        Line(3, Range),
+    ),
     (
         b"excludes 45\nbound 0:4611686018427387904 4294967296:1\n",
         Line(3, Range),
