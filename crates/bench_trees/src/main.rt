@@ -13,8 +13,14 @@ use std::time::Instant;
 
 fn bound(alloc: Global) -> Result<Node, AllocError> {
     let mut mults = Items::new(alloc);
-    mults.push(Mult { row: 2, times: 1234 })?;
-    mults.push(Mult { row: 35, times: 5678 })?;
+    mults.push(Mult {
+        row: 2,
+        times: 1234,
+    })?;
+    mults.push(Mult {
+        row: 35,
+        times: 5678,
+    })?;
     Ok(Node::Bound { mults })
 }
 

@@ -11,7 +11,7 @@
 --   Stop                       == why a line isn't read: it isn't ended, it is of another form, a number but a multiplier is too great,
 --                              or a multiplier is
 --   line_at bytes              == the node of the line, or why it isn't read: the form first, then the numbers, then the multipliers
-use Rattle.std.specs.Prelude.{ℕ, ℤ, pos, negsuc, zero, suc, int_lt, unsigned_abs, List, [], ◌∷◌, length, map, slice_index_or, Bool, true, false, not, ◌&&◌, ◌==◌, if◌then◌else◌, Option, Some, None, option_and_then, is_some, Result, Ok, Err, codes}
+use Rattle.std.specs.Prelude.{ℕ, ℤ, pos, negsuc, zero, suc, int_lt, unsigned_abs, List, [], ◌∷◌, length, map, slice_index_or, Bool, true, not, ◌&&◌, ◌==◌, if◌then◌else◌, Option, Some, None, is_some, Result, Ok, Err, codes}
 use Rattle.std.specs.List.{list_any}
 use Rattle.text_lines.specs.Reading.{◌>>=◌, literal_at, whole_at, has_line_end}
 use Rattle.seq_model.specs.declared.tree.Mult.{Mult}
@@ -22,7 +22,6 @@ use Rattle.cert_text.specs.declared.lines.Form.TheVariants.{Order, Side, Cycle}
 use Rattle.cert_text.specs.declared.lines.Stop.{Stop}
 use Rattle.cert_text.specs.declared.lines.Stop.TheVariants.{Unended, Other, Range, Big}
 use Rattle.cert_text.specs.declared.pairs.Pair.{Pair}
-use Rattle.cert_text.specs.TreeText.{row_of}
 
 abbrev pub ends_line : List ℕ → Bool
 ends_line bytes = is_some (literal_at (codes "\n") bytes)

@@ -5,7 +5,7 @@
 --   StopsHere line todo rest k fault  why reading stops at line k, with these depths to come: nothing is to come and bytes follow; the
 --                                     line is refused; or it is read, and its node is too deep
 --   IsRefusedAt line bytes fault      the lines before are read, and there it stops
-use Rattle.std.specs.Prelude.{◌≡◌, ℕ, ◌+◌, ◌<◌, ◌≤◌, List, [], ◌∷◌, ◌++◌, ◌⊎◌, length, true, false, Result, Ok, Err}
+use Rattle.std.specs.Prelude.{◌≡◌, ℕ, ◌<◌, ◌≤◌, List, [], ◌∷◌, ◌⊎◌, length, true, false, Result, Ok, Err}
 use Rattle.seq_model.specs.declared.tree.Node.{Node}
 use Rattle.seq_model.specs.Trees.{Fills}
 use Rattle.text_lines.specs.Reading.{has_line_end}

@@ -18,7 +18,7 @@
 --   IsSpeltHead h         the grammar spells the head h
 --   IsTreeText bytes kind h t   the bytes are the text of a block of this kind, whose nodes are one whole tree, none with more than
 --                         1,000,000 splits above it
-use Rattle.std.specs.Prelude.{◌≡◌, ℕ, ℤ, pos, negsuc, ◌<◌, ◌≤◌, ◌^◌, ◌≤ℤ◌, ◌<ℤ◌, unsigned_abs, List, [], ◌∷◌, ◌++◌, length, map, All, Option, Some, None, codes}
+use Rattle.std.specs.Prelude.{◌≡◌, ℕ, ℤ, pos, negsuc, ◌<◌, ◌≤◌, ◌^◌, ◌≤ℤ◌, ◌<ℤ◌, List, [], ◌∷◌, ◌++◌, length, map, All, Option, Some, None, codes}
 use Rattle.seq_num.specs.Spelling.{spelling}
 use Rattle.seq_model.specs.Trees.{IsWholeWithin}
 use Rattle.seq_model.specs.declared.tree.Contact.{Contact}

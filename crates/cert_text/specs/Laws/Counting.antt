@@ -1,13 +1,11 @@
 -- Steps of the reading of a tree's lines.
-use Rattle.std.proofs.Common.{◌≡◌, ℕ, zero, suc, ◌+◌, ◌-◌, ◌≤◌, ◌<◌, ◌^◌, List, [], ◌∷◌, ◌++◌, ◌⊎◌, inl, inr, length, reverse, replicate, Result, Ok, Err, refl, sym, ap, subst, ◌∙◌, arith, append_assoc, true, false, All, length-append}
-use Rattle.std.proofs.lemmas.List.{reverse-append, length-replicate}
+use Rattle.std.proofs.Common.{◌≡◌, ℕ, suc, ◌+◌, ◌-◌, ◌≤◌, ◌<◌, ◌^◌, List, [], ◌∷◌, ◌++◌, inl, inr, length, reverse, replicate, Ok, refl, sym, ap, subst, ◌∙◌, arith, All}
+use Rattle.std.proofs.lemmas.List.{reverse-append}
 use Rattle.std.proofs.lemmas.List.Elements.{All-head, All-tail}
 use Rattle.seq_model.specs.declared.tree.Node.{Node}
 use Rattle.seq_model.specs.Trees.{arity, Fills}
-use Rattle.text_lines.specs.Reading.{has_line_end}
 use Rattle.cert_text.specs.Nodes.{Line, most_deep, LinesRead, AreTree, StopsHere, IsRefusedAt}
 use Rattle.cert_text.specs.declared.nodes.Opening.{Opening}
-use Rattle.cert_text.specs.declared.lines.Stop.{Stop}
 use Rattle.cert_text.specs.declared.nodes.Fault.{Fault}
 use Rattle.cert_text.specs.declared.nodes.Fault.TheVariants as faults
 

@@ -4,7 +4,7 @@
 --   count_is         it is the size that it has
 --   all_counts       numbers none of which is below 0 or too great are such
 --   counted, again   their sizes give them back, and they their sizes
-use Rattle.std.proofs.Common.{◌≡◌, ℕ, suc, ◌<◌, ◌≤◌, ◌^◌, ℤ, pos, negsuc, int_lt, unsigned_abs, ◌≤ℤ◌, List, [], ◌∷◌, map, Bool, true, false, ◌||◌, refl, ap, ◌∙◌, All, arith}
+use Rattle.std.proofs.Common.{◌≡◌, ℕ, ◌<◌, ◌^◌, ℤ, pos, negsuc, unsigned_abs, ◌≤ℤ◌, List, [], ◌∷◌, map, Bool, true, false, ◌||◌, refl, ap, ◌∙◌, All, arith}
 use Rattle.std.proofs.lemmas.Int.{ints}
 use Rattle.std.proofs.lemmas.Bool.Decides.{nat_tests}
 use Rattle.std.proofs.lemmas.List.Elements.{All-nil, All-cons, All-head, All-tail}

@@ -4,7 +4,7 @@
 --   note_takes, note_again     a wide line
 --   head_takes, head_again     the head
 --   tree_read, tree_all        the block
-use Rattle.std.proofs.Common.{◌≡◌, ◌≢◌, ℕ, zero, suc, ◌+◌, ◌<◌, ◌≤◌, ◌^◌, ℤ, pos, negsuc, unsigned_abs, int_lt, ◌≤ℤ◌, ◌<ℤ◌, List, [], ◌∷◌, ◌++◌, length, map, Bool, true, false, cond, eqb, ◌&&◌, ◌||◌, Option, Some, None, Result, Ok, Err, IfOk, IfErr, ◌⊎◌, inl, inr, All, codes, refl, sym, ap, ◌∙◌, subst, arith, append_assoc, append-nil, length-append}
+use Rattle.std.proofs.Common.{◌≡◌, ◌≢◌, ℕ, ◌<◌, ◌≤◌, ◌^◌, ℤ, pos, negsuc, unsigned_abs, int_lt, ◌≤ℤ◌, ◌<ℤ◌, List, [], ◌∷◌, ◌++◌, length, map, Bool, true, false, cond, ◌&&◌, ◌||◌, Option, Some, None, Result, Ok, Err, IfOk, IfErr, inl, inr, All, codes, refl, sym, ap, ◌∙◌, subst, arith, append_assoc, append-nil, length-append}
 use Rattle.std.proofs.lemmas.Bool.Decides.{nat_tests}
 use Rattle.std.proofs.lemmas.Int.{ints}
 use Rattle.std.proofs.lemmas.List.Elements.{All-nil, All-cons, All-head, All-tail}
@@ -20,16 +20,16 @@ use Rattle.cert_text.specs.Laws.Nodes.{spelt_of, nodes_take, nodes_again}
 use Rattle.text_lines.specs.Lines.{number_line, number_line_at}
 use Rattle.text_lines.specs.Laws.Lines.{number_line_takes, number_line_again}
 use Rattle.cert_text.specs.declared.heads.Wide.{Wide}
-use Rattle.cert_text.specs.Lines.{is_far, is_below, number_at, numbers_at, line_at}
+use Rattle.cert_text.specs.Lines.{is_far, number_at, numbers_at, line_at}
 use Rattle.cert_text.specs.TreeText.{number_text, numbers_text, basis_text, note_text, wide_text, head_text, nodes_text, first_line, extent_word, AreRising, HasNote, IsSpeltNote, IsSpeltHead, IsTreeText}
 use Rattle.seq_num.specs.Spelling.{spelling}
 use Rattle.text_lines.specs.Reading.{literal_at, whole_at, digit_count}
-use Rattle.cert_text.specs.Laws.Numbers.{CanBeSpelt, IsSeparator, comma_is, space_is, starts_plain, number_takes, number_again, numbers_takes, numbers_again}
+use Rattle.cert_text.specs.Laws.Numbers.{CanBeSpelt, IsSeparator, comma_is, starts_plain, number_takes, number_again, numbers_takes, numbers_again}
 use Rattle.seq_model.specs.declared.tree.WideNote.{WideNote}
 use Rattle.cert_text.specs.declared.block.CertRead.{CertRead}
 use Rattle.cert_text.specs.declared.block.CertRead.TheVariants as answers
 use Rattle.seq_model.specs.declared.what.What.TheVariants as what
-use Rattle.cert_text.specs.Heads.{rising, is_due, wide_start_at, wide_at, is_wide_far, note_of, noted, note_at, with_note, headed, extended, begun, head_at, IsRefusedTree, IsRefusedBehind}
+use Rattle.cert_text.specs.Heads.{rising, is_due, wide_start_at, wide_at, is_wide_far, note_of, noted, note_at, with_note, headed, extended, begun, head_at, IsRefusedTree}
 use Rattle.cert_text.specs.Laws.Counts.{IsCount, neither, count_is, count_small, counted, all_small, again, none_far}
 use Rattle.seq_num.specs.Laws.Spelling.{guard_some, and_true}
 use Rattle.text_lines.specs.Laws.Reading.{step_some, literal_takes, literal_again, whole_takes, whole_again}

@@ -1,5 +1,5 @@
 -- Pairs none of which is too great fit the types of multipliers.
-use Rattle.std.proofs.Common.{◌≡◌, ℕ, ◌<◌, ◌≤◌, ℤ, pos, int_lt, ◌≤ℤ◌, List, [], ◌∷◌, Bool, true, false, ◌||◌, refl, All, arith}
+use Rattle.std.proofs.Common.{◌≡◌, pos, ◌≤ℤ◌, List, [], ◌∷◌, Bool, true, false, ◌||◌, refl, All, arith}
 use Rattle.std.proofs.lemmas.Int.{ints}
 use Rattle.std.proofs.lemmas.Bool.Decides.{nat_tests}
 use Rattle.std.proofs.lemmas.List.Elements.{All-nil, All-cons, All-head, All-tail}

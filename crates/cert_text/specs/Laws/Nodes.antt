@@ -4,28 +4,27 @@
 --   line_again      the text of a node that the grammar spells is read as this node
 --   line_shorter    a line takes bytes
 --   nodes_take, nodes_again   the same of the lines of some nodes
-use Rattle.std.proofs.Common.{◌≡◌, ℕ, zero, suc, ◌+◌, ◌<◌, ◌≤◌, ◌^◌, ℤ, pos, negsuc, unsigned_abs, int_lt, ◌≤ℤ◌, ◌<ℤ◌, List, [], ◌∷◌, ◌++◌, length, map, take, get_or, Bool, true, false, cond, eqb, not, ◌&&◌, Option, Some, None, Result, Ok, Err, ◌⊎◌, inl, inr, All, codes, refl, sym, ap, ◌∙◌, subst, arith, append_assoc, length-append}
+use Rattle.std.proofs.Common.{◌≡◌, ℕ, suc, ◌<◌, ◌≤◌, ◌^◌, ℤ, pos, negsuc, unsigned_abs, int_lt, ◌≤ℤ◌, ◌<ℤ◌, List, [], ◌∷◌, ◌++◌, length, map, take, get_or, Bool, true, false, cond, eqb, not, Option, Some, None, Result, Ok, Err, ◌⊎◌, inl, inr, All, codes, refl, sym, ap, ◌∙◌, subst, arith, append_assoc, length-append}
 use Rattle.std.proofs.lemmas.Bool.Decides.{nat_tests}
 use Rattle.std.proofs.lemmas.Int.{ints}
 use Rattle.std.proofs.lemmas.List.Elements.{All-nil, All-cons, All-head, All-tail}
 use Rattle.std.proofs.lemmas.Slice.Eq.{bytes_eq-Decides}
 use Rattle.std.specs.List.{list_any}
 use Rattle.std.specs.Str.{bytes_eq}
-use Rattle.seq_num.specs.Laws.Spelling.{guard_some, and_true}
+use Rattle.seq_num.specs.Laws.Spelling.{and_true}
 use Rattle.text_lines.specs.Reading.{literal_at}
 use Rattle.text_lines.specs.Laws.Reading.{literal_takes, literal_again}
-use Rattle.seq_model.specs.declared.tree.Contact.{Contact}
 use Rattle.seq_model.specs.declared.tree.Mult.{Mult}
 use Rattle.seq_model.specs.declared.tree.Node.{Node}
 use Rattle.seq_model.specs.declared.tree.Node.TheVariants as Nodes
 use Rattle.cert_text.specs.declared.lines.Form.{Form}
 use Rattle.cert_text.specs.declared.lines.Form.TheVariants.{Order, Side, Cycle}
 use Rattle.cert_text.specs.declared.lines.Stop.{Stop}
-use Rattle.cert_text.specs.declared.lines.Stop.TheVariants.{Unended, Other, Range, Big}
+use Rattle.cert_text.specs.declared.lines.Stop.TheVariants.{Range, Big}
 use Rattle.cert_text.specs.declared.pairs.Pair.{Pair}
-use Rattle.cert_text.specs.Lines.{Read, numbers_at, room_of, are_enough, is_below, is_far, is_far_pair, is_big, number_or, count_at, node_of, form_at, bound_at, mult_of, mults_of, unread, formed, bound, paired, named, formed_at, paired_at, line_at}
+use Rattle.cert_text.specs.Lines.{Read, room_of, are_enough, is_far, is_far_pair, is_big, number_or, node_of, form_at, bound_at, mult_of, unread, formed, bound, paired, named, formed_at, paired_at, line_at}
 use Rattle.cert_text.specs.Nodes.{LinesRead}
-use Rattle.cert_text.specs.TreeText.{numbers_text, pairs_text, pair_of, row_of, side_numbers, node_text, nodes_text, AreRising, IsBoundLine, IsSpeltMult, IsSpeltContact, IsSpelt}
+use Rattle.cert_text.specs.TreeText.{numbers_text, pairs_text, pair_of, side_numbers, node_text, nodes_text, IsBoundLine, IsSpeltMult, IsSpelt}
 use Rattle.cert_text.specs.Laws.Counts.{IsCount, count_is, count_small, all_counts, counted, again, all_small, none_below, none_far}
 use Rattle.cert_text.specs.Laws.Forms.{TakesForm, form_takes, bound_dues}
 use Rattle.cert_text.specs.Laws.Mults.{IsDue, IsFitting, all_fit}

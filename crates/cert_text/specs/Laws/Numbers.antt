@@ -4,13 +4,13 @@
 --   number_takes, number_again     one number behind a separator
 --   numbers_takes, numbers_again   the numbers up to the end of the line
 --   loop_..                 steps of the loop that reads them
-use Rattle.std.proofs.Common.{◌≡◌, ℕ, zero, suc, ◌+◌, ◌-◌, ◌≤◌, ◌<◌, ◌^◌, ℤ, pos, negsuc, unsigned_abs, int_lt, ◌≤ℤ◌, ◌<ℤ◌, List, [], ◌∷◌, ◌++◌, length, map, Bool, true, false, cond, eqb, not, ◌&&◌, Option, Some, None, is_some, All, codes, refl, sym, ap, ◌∙◌, subst, arith, append_assoc, append-nil, length-append}
+use Rattle.std.proofs.Common.{◌≡◌, ℕ, zero, suc, ◌-◌, ◌≤◌, ◌<◌, ◌^◌, ℤ, pos, negsuc, unsigned_abs, List, [], ◌∷◌, ◌++◌, length, Bool, true, false, Option, Some, None, is_some, All, codes, refl, sym, ap, ◌∙◌, subst, arith, append_assoc, append-nil, length-append}
 use Rattle.std.proofs.lemmas.List.Elements.{All-nil, All-cons, All-head, All-tail}
 use Rattle.std.specs.Option.{option_map}
 use Rattle.std.specs.Prelude.{decimal}
 use Rattle.seq_num.specs.Spelling.{spelling}
 use Rattle.seq_num.specs.Laws.Digits.{not_empty}
-use Rattle.text_lines.specs.Reading.{◌>>=◌, literal_at, digit_count, whole_at}
+use Rattle.text_lines.specs.Reading.{◌>>=◌, literal_at, digit_count}
 use Rattle.text_lines.specs.Laws.Reading.{step_some, literal_takes, literal_again, whole_takes, whole_again}
 use Rattle.cert_text.specs.Lines.{ends_line, number_at, numbers_end, numbers_at}
 use Rattle.cert_text.specs.TreeText.{number_text, numbers_text}

@@ -1,4 +1,4 @@
-use Rattle.std.proofs.Common.{◌≡◌, subst, sym, ap, ◌∙◌, rules}
+use Rattle.std.proofs.Common.{subst, sym, ap, ◌∙◌}
 use Rattle.text_lines.specs.Laws.Reading.{mapped_some}
 use Rattle.cert_text.specs.Heads.{is_wide_far}
 use Rattle.cert_text.specs.Laws.Heads.{IsFittingWide, wide_fits}

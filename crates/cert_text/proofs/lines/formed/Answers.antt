@@ -1,4 +1,4 @@
-use Rattle.std.proofs.Common.{◌≡◌, Some, All, subst, sym, ap, ◌∙◌, false}
+use Rattle.std.proofs.Common.{All, subst, sym, ap, ◌∙◌}
 use Rattle.std.specs.List.{list_any}
 use Rattle.cert_text.specs.Lines.{is_far}
 use Rattle.cert_text.specs.Laws.Counts.{IsCount}

@@ -1,4 +1,4 @@
-use Rattle.std.proofs.Common.{arith, refl, rules}
+use Rattle.std.proofs.Common.{refl, rules}
 use Rattle.cert_text.specs.Laws.Counting.{turn}
 use Rattle.cert_text.proofs.nodes.read_nodes.Goals as goal
 

@@ -1,7 +1,6 @@
-use Rattle.std.proofs.Common.{◌≡◌, ◌∷◌, ◌++◌, [], ◌∙◌, ◌<◌, ap, sym, length, length-append, Some, None, refl, arith, rules, FitsSigned}
+use Rattle.std.proofs.Common.{◌≡◌, ◌∷◌, ◌++◌, [], ◌∙◌, ◌<◌, ap, sym, length, length-append, refl, arith, rules, FitsSigned}
 use Rattle.std.proofs.lemmas.Int.{to_z-of_z}
 use Rattle.std.specs.Option.{option_map}
-use Rattle.cert_text.specs.Lines.{number_at, ends_line}
 use Rattle.cert_text.specs.Laws.Numbers.{loop_more, loop_none, loop_full, loop_ended, shorter_rest, with_found}
 use Rattle.text_lines.specs.Laws.Reading.{mapped_some}
 use Rattle.cert_text.proofs.numbers.numbers.Goals as goal

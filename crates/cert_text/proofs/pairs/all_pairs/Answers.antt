@@ -1,6 +1,5 @@
-use Rattle.std.proofs.Common.{◌≡◌, ◌∷◌, ◌++◌, [], ◌∙◌, ◌<◌, ap, sym, length, length-append, Some, None, refl, arith, rules}
+use Rattle.std.proofs.Common.{◌≡◌, ◌∷◌, ◌++◌, [], ◌∙◌, ◌<◌, ap, sym, length, length-append, refl, arith, rules}
 use Rattle.std.specs.Option.{option_map}
-use Rattle.cert_text.specs.Lines.{pair_at, ends_line}
 use Rattle.cert_text.specs.Laws.Pairs.{loop_more, loop_none, loop_full, loop_ended, smaller_rest, with_found}
 use Rattle.text_lines.specs.Laws.Reading.{mapped_some}
 use Rattle.cert_text.proofs.pairs.all_pairs.Goals as goal
