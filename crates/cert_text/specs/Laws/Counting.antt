@@ -1,10 +1,12 @@
 -- Steps of the reading of a tree's lines.
-use Rattle.std.proofs.Common.{◌≡◌, ℕ, suc, ◌+◌, ◌-◌, ◌≤◌, ◌<◌, ◌^◌, List, [], ◌∷◌, ◌++◌, inl, inr, length, reverse, replicate, Ok, refl, sym, ap, subst, ◌∙◌, arith, All}
+use Rattle.std.proofs.Common.{◌≡◌, ℕ, suc, ◌+◌, ◌-◌, ◌≤◌, ◌<◌, ◌^◌, List, [], ◌∷◌, ◌++◌, inl, inr, length, reverse, replicate, Ok, refl, sym, ap, subst, ◌∙◌, arith, All, true, false, ◌⊎◌, Err}
 use Rattle.std.proofs.lemmas.List.{reverse-append}
 use Rattle.std.proofs.lemmas.List.Elements.{All-head, All-tail}
 use Rattle.seq_model.specs.declared.tree.Node.{Node}
 use Rattle.seq_model.specs.Trees.{arity, Fills}
 use Rattle.cert_text.specs.Nodes.{Line, most_deep, LinesRead, AreTree, StopsHere, IsRefusedAt}
+use Rattle.cert_text.specs.declared.lines.Stop.{Stop}
+use Rattle.text_lines.specs.Reading.{has_line_end}
 use Rattle.cert_text.specs.declared.nodes.Opening.{Opening}
 use Rattle.cert_text.specs.declared.nodes.Fault.{Fault}
 use Rattle.cert_text.specs.declared.nodes.Fault.TheVariants as faults
@@ -117,3 +119,51 @@ last_of (x ∷ left) o h = last_of left o (All-tail IsOpening x (left ++ o ∷ [
 
 pub taken_one : (all left : List Opening) (o : Opening) → all ≡ left ++ o ∷ [] → All IsOpening all → o.left ≤ 1 → due (reverse all) ≡ o.depth ∷ due (reverse left)
 taken_one all left o e h few = let some = (last_of left o (subst (All IsOpening) e h)).some in taken_last all left o e (omega (arith, some, few))
+
+-- ---- bytes are refused in one way at most
+one_end : (rest : List ℕ) (k : ℕ) (f g : Fault) → ((has_line_end rest ≡ true) × (f ≡ faults.After k)) ⊎ ((has_line_end rest ≡ false) × (f ≡ faults.Unended))
+    → ((has_line_end rest ≡ true) × (g ≡ faults.After k)) ⊎ ((has_line_end rest ≡ false) × (g ≡ faults.Unended)) → f ≡ g
+one_end rest k f g (inl s) (inl t) = s.1 ∙ sym t.1
+one_end rest k f g (inl s) (inr t) = absurd (cc (sym s.0 ∙ t.0))
+one_end rest k f g (inr s) (inl t) = absurd (cc (sym s.0 ∙ t.0))
+one_end rest k f g (inr s) (inr t) = s.1 ∙ sym t.1
+
+one_error : (line : Line) (rest : List ℕ) (a b : Stop) → line rest ≡ Err a → line rest ≡ Err b → a ≡ b
+one_error line rest a b e f = cc (sym e ∙ f)
+
+one_stop : (line : Line) (todo rest : List ℕ) (k : ℕ) (f g : Fault) → StopsHere line todo rest k f → StopsHere line todo rest k g → f ≡ g
+one_stop line [] rest k f g s t = one_end rest k f g s.1 t.1
+one_stop line (d ∷ todo) rest k f g (inl s) (inl t) = s.2 ∙ (ap (λ x. faults.Stopped k x) (one_error line rest s.0 t.0 s.1 t.1) ∙ sym t.2)
+one_stop line (d ∷ todo) rest k f g (inl s) (inr t) = absurd (cc (sym s.1 ∙ t.2))
+one_stop line (d ∷ todo) rest k f g (inr s) (inl t) = absurd (cc (sym t.1 ∙ s.2))
+one_stop line (d ∷ todo) rest k f g (inr s) (inr t) = s.4 ∙ sym t.4
+
+-- what stops here reads no further
+goes_on : (line : Line) (start bytes after : List ℕ) (n : Node) (more : List Node) (left : List ℕ) (k : ℕ) (f : Fault)
+    → StopsHere line start bytes k f → line bytes ≡ Ok (n, after) → Fills most_deep start (n ∷ more) left → ⊥
+goes_on line [] bytes after n more left k f s e g = g
+goes_on line (d ∷ start) bytes after n more left k f (inl s) e g = cc (sym s.1 ∙ e)
+goes_on line (d ∷ start) bytes after n more left k f (inr s) e g = omega (arith, g.0, s.3)
+
+same_stops : (line : Line) (nodes more : List Node) (bytes rest other start todo left : List ℕ) (c i j : ℕ) (f g : Fault)
+    → LinesRead line bytes nodes rest → Fills most_deep start nodes todo → StopsHere line todo rest i f → i ≡ c + length nodes
+    → LinesRead line bytes more other → Fills most_deep start more left → StopsHere line left other j g → j ≡ c + length more → f ≡ g
+same_stops line [] [] bytes rest other start todo left c i j f g l h s n m k t o =
+    one_stop line todo rest i f g s
+    (subst (λ x. StopsHere line todo rest x g) (o ∙ sym n)
+    (subst (λ b. StopsHere line todo b j g) (sym m ∙ l)
+    (subst (λ x. StopsHere line x other j g) (sym k ∙ h) t)))
+same_stops line [] (x ∷ more) bytes rest other start todo left c i j f g l h s n m k t o =
+    absurd (goes_on line start bytes m.0 x more left i f (subst (λ b. StopsHere line start b i f) (sym l) (subst (λ d. StopsHere line d rest i f) (sym h) s)) m.1 k)
+same_stops line (x ∷ nodes) [] bytes rest other start todo left c i j f g l h s n m k t o =
+    absurd (goes_on line start bytes l.0 x nodes todo j g (subst (λ b. StopsHere line start b j g) (sym m) (subst (λ d. StopsHere line d other j g) (sym k) t)) l.1 h)
+same_stops line (x ∷ nodes) (y ∷ more) bytes rest other [] todo left c i j f g l h s n m k t o = absurd h
+same_stops line (x ∷ nodes) (y ∷ more) bytes rest other (d ∷ start) todo left c i j f g l h s n m k t o =
+    let same = same_line line bytes m.0 l.0 y x m.1 l.1 in
+    same_stops line nodes more l.0 rest other (replicate (arity x) (d + 1) ++ start) todo left (c + 1) i j f g l.2 h.1 s (omega (arith, n))
+    (subst (λ b. LinesRead line b more other) same.1 m.2)
+    (subst (λ w. Fills most_deep (replicate (arity w) (d + 1) ++ start) more left) same.0 k.1) t (omega (arith, o))
+
+pub one_refusal : (line : Line) (bytes : List ℕ) (f g : Fault) → IsRefusedAt line bytes f → IsRefusedAt line bytes g → f ≡ g
+one_refusal line bytes f g a b =
+    same_stops line a.nodes b.nodes bytes a.rest b.rest (0 ∷ []) a.todo b.todo 0 (length a.nodes) (length b.nodes) f g a.lines a.fills a.stops (omega arith) b.lines b.fills b.stops (omega arith)

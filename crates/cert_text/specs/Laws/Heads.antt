@@ -3,7 +3,7 @@
 --   IsFittingWide w more   the numbers of a wide line fit the types of a note
 --   note_takes, note_again     a wide line
 --   head_takes, head_again     the head
---   tree_read, tree_all        the block
+--   tree_read, tree_all, tree_refuses   the block
 use Rattle.std.proofs.Common.{◌≡◌, ◌≢◌, ℕ, ◌<◌, ◌≤◌, ◌^◌, ℤ, pos, negsuc, unsigned_abs, int_lt, ◌≤ℤ◌, ◌<ℤ◌, List, [], ◌∷◌, ◌++◌, length, map, Bool, true, false, cond, ◌&&◌, ◌||◌, Option, Some, None, Result, Ok, Err, IfOk, IfErr, inl, inr, All, codes, refl, sym, ap, ◌∙◌, subst, arith, append_assoc, append-nil, length-append}
 use Rattle.std.proofs.lemmas.Bool.Decides.{nat_tests}
 use Rattle.std.proofs.lemmas.Int.{ints}
@@ -14,8 +14,8 @@ use Rattle.seq_model.specs.declared.tree.Tree.{Tree}
 use Rattle.cert_text.specs.declared.block.Head.{Head}
 use Rattle.cert_text.specs.declared.block.Kind.{Kind}
 use Rattle.cert_text.specs.declared.block.Kind.TheVariants.{Certificate, OpenBudget, OpenWide}
-use Rattle.cert_text.specs.Nodes.{AreTree, LinesRead}
-use Rattle.cert_text.specs.Laws.Counting.{one_tree, refused_or_read}
+use Rattle.cert_text.specs.Nodes.{AreTree, IsRefusedAt, LinesRead}
+use Rattle.cert_text.specs.Laws.Counting.{one_tree, refused_or_read, one_refusal}
 use Rattle.cert_text.specs.Laws.Nodes.{spelt_of, nodes_take, nodes_again}
 use Rattle.text_lines.specs.Lines.{number_line, number_line_at}
 use Rattle.text_lines.specs.Laws.Lines.{number_line_takes, number_line_again}
@@ -29,7 +29,7 @@ use Rattle.seq_model.specs.declared.tree.WideNote.{WideNote}
 use Rattle.cert_text.specs.declared.block.CertRead.{CertRead}
 use Rattle.cert_text.specs.declared.block.CertRead.TheVariants as answers
 use Rattle.seq_model.specs.declared.what.What.TheVariants as what
-use Rattle.cert_text.specs.Heads.{rising, is_due, wide_start_at, wide_at, is_wide_far, note_of, noted, note_at, with_note, headed, extended, begun, head_at, IsRefusedTree}
+use Rattle.cert_text.specs.Heads.{rising, is_due, wide_start_at, wide_at, is_wide_far, note_of, noted, note_at, with_note, headed, extended, begun, head_at, IsRefusedTree, before, refused}
 use Rattle.cert_text.specs.Laws.Counts.{IsCount, neither, count_is, count_small, counted, all_small, again, none_far}
 use Rattle.seq_num.specs.Laws.Spelling.{guard_some, and_true}
 use Rattle.text_lines.specs.Laws.Reading.{step_some, literal_takes, literal_again, whole_takes, whole_again}
@@ -348,13 +348,13 @@ same_head kind bytes a b g h e f =
 
 pub tree_all : (kind : Kind) (bytes : List ℕ) (r : Result (Head × Tree) CertRead) → IfOk r (λ x. IsTreeText bytes kind x.0 x.1) → IfErr r (λ e. e ≢ answers.NoMemory → IsRefusedTree bytes kind e)
     → (head : Head) (tree : Tree) → IsTreeText bytes kind head tree → r ≢ Err answers.NoMemory → r ≡ Ok (head, tree)
-tree_all kind bytes (Ok x) read refused head tree is some =
+tree_all kind bytes (Ok x) read was head tree is some =
     let a = is_read kind bytes x.0 x.1 read in
     let b = is_read kind bytes head tree is in
     let same = same_head kind bytes (nodes_text x.1.nodes) (nodes_text tree.nodes) x.0 head a.head b.head in
     let nodes = one_tree line_at (nodes_text x.1.nodes) x.1.nodes tree.nodes a.nodes (subst (λ l. AreTree line_at l tree.nodes) (sym same.1) b.nodes) in
     ap (λ (h : Head). Ok (h, x.1)) same.0 ∙ ap (λ (ns : List Node). Ok (head, record { nodes = ns })) nodes
-tree_all kind bytes (Err e) read refused head tree is some = absurd (by (refused (λ k. some (ap Err k))))
+tree_all kind bytes (Err e) read was head tree is some = absurd (by (was (λ k. some (ap Err k))))
   where
     b : IsRead kind bytes head tree
     b = is_read kind bytes head tree is
@@ -364,3 +364,27 @@ tree_all kind bytes (Err e) read refused head tree is some = absurd (by (refused
     by (inr h) =
         let same = same_head kind bytes h.rest (nodes_text tree.nodes) h.head head h.read b.head in
         refused_or_read line_at h.rest h.fault tree.nodes h.is (subst (λ l. AreTree line_at l tree.nodes) (sym same.1) b.nodes)
+
+-- ---- what is refused
+never_both : (kind : Kind) (bytes : List ℕ) (e : CertRead) (h : Head) (t : Tree) → IsRefusedTree bytes kind e → IsRead kind bytes h t → ⊥
+never_both kind bytes e h t (inl r) b = cc (sym r ∙ b.head)
+never_both kind bytes e h t (inr r) b =
+    let same = same_head kind bytes r.rest (nodes_text t.nodes) r.head h r.read b.head in
+    refused_or_read line_at r.rest r.fault t.nodes r.is (subst (λ l. AreTree line_at l t.nodes) (sym same.1) b.nodes)
+
+one_refused : (kind : Kind) (bytes : List ℕ) (a b : CertRead) → IsRefusedTree bytes kind a → IsRefusedTree bytes kind b → a ≡ b
+one_refused kind bytes a b (inl r) (inl s) = err_one (head_at kind bytes) a b r s
+  where
+    err_one : (x : Result (Head × List ℕ) CertRead) (a b : CertRead) → x ≡ Err a → x ≡ Err b → a ≡ b
+    err_one x a b r s = cc (sym r ∙ s)
+one_refused kind bytes a b (inl r) (inr s) = absurd (cc (sym r ∙ s.read))
+one_refused kind bytes a b (inr r) (inl s) = absurd (cc (sym s ∙ r.read))
+one_refused kind bytes a b (inr r) (inr s) =
+    let same = same_head kind bytes r.rest s.rest r.head s.head r.read s.read in
+    let fault = one_refusal line_at s.rest r.fault s.fault (subst (λ l. IsRefusedAt line_at l r.fault) same.1 r.is) s.is in
+    r.answer ∙ (ap (refused (before kind)) fault ∙ sym s.answer)
+
+pub tree_refuses : (kind : Kind) (bytes : List ℕ) (r : Result (Head × Tree) CertRead) → IfOk r (λ x. IsTreeText bytes kind x.0 x.1) → IfErr r (λ e. e ≢ answers.NoMemory → IsRefusedTree bytes kind e)
+    → (e : CertRead) → IsRefusedTree bytes kind e → r ≢ Err answers.NoMemory → r ≡ Err e
+tree_refuses kind bytes (Ok x) read was e is some = absurd (never_both kind bytes e x.0 x.1 is (is_read kind bytes x.0 x.1 read))
+tree_refuses kind bytes (Err f) read was e is some = ap Err (one_refused kind bytes f e (was (λ k. some (ap Err k))) is)
