@@ -1,0 +1,5 @@
+pub mod TreeText
+pub mod Lines
+pub mod Nodes
+pub mod Heads
+pub mod Laws
