@@ -41,3 +41,6 @@ within_hull S C h = All-from_in (λ s. Within C (at_spot s)) S (λ s i. h.keeps.
 
 pub inner_hull : (S C : List Spot) → Hull S C → (q : Point) → Inner C q ↔ Inner S q
 inner_hull S C h q = (h.keeps.to_list q, h.keeps.to_corners q)
+
+pub narrow_hull : (S C : List Spot) → Hull S C → All IsNarrow S → All IsNarrow C
+narrow_hull S C h near = All-from_in IsNarrow C (λ s i. All-in IsNarrow S s near (h.keeps.members s i))

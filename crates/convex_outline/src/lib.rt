@@ -107,6 +107,7 @@ fn ascending(alloc: Global, spots: &[Spot]) -> Result<Vec<Spot>, AllocError>
 pub fn hull(alloc: Global, spots: &[Spot]) -> Result<Vec<Spot>, NoMemory>
     requires { All IsNarrow spots.now }
     ensures corners { IfOk result (λ hull. AreCorners hull.items) }
+    ensures near { IfOk result (λ hull. All IsNarrow hull.items) }
     ensures members { IfOk result (λ hull. All (Contains spots.now) hull.items) }
     ensures within { IfOk result (λ hull. All (λ s. Within hull.items (at_spot s)) spots.now) }
     ensures inner { IfOk result (λ hull. (q : Point) → Inner hull.items q ↔ Inner spots.now q) }

@@ -17,3 +17,6 @@ pub use around::{next_side, sides_of};
 pub use inside::strictly_in;
 pub use rows::{side_row, SideRow};
 pub use values::support;
+
+#[cfg(test)]
+mod tests;

@@ -1,0 +1,3 @@
+pub mod FirstContacts
+pub mod Laws
+pub mod Limits
