@@ -13,7 +13,7 @@ use Rattle.std.proofs.Math.Seq.{take-append_seam, take-append-add}
 use Rattle.std.proofs.lemmas.List.{length-replicate, take-append-le}
 use Rattle.model_laws.specs.Laws.OnePath.{one_left}
 use Rattle.model_laws.specs.Laws.Reading.{reads_then}
-use Rattle.refutation_tree.specs.Grown.{node_of, IsWhole, HasGrown, with_split, with_leaf}
+use Rattle.refutation_tree.specs.Grown.{node_of, IsPreorder, HasGrown, with_split, with_leaf}
 use Rattle.refutation_tree.specs.Laws.Surgery.{split_in, whole_after_split, whole_after_leaf}
 use Rattle.refutation_tree.specs.declared.growing.Made.{Made}
 use Rattle.seq_model.specs.Splits.{StandsAt}
@@ -44,14 +44,14 @@ pub whole_splits : (made : List Made) (at : ℕ) (node : Node) → at < length m
     → HasGrown made (with_split made at node) at node (replicate (arity node) Nodes.Pending)
 whole_splits made at node h p = record {
   kept = λ front back whole number.
-      subst (IsWhole (with_split made at node)) (split_there front back node) (whole_after_split made at (length front) node (front ++ Nodes.Pending ∷ back) h p whole number);
+      subst (IsPreorder (with_split made at node)) (split_there front back node) (whole_after_split made at (length front) node (front ++ Nodes.Pending ∷ back) h p whole number);
 }
 
 pub whole_closes : (made : List Made) (at : ℕ) (leaf : Node) → at < length made → node_of made at ≡ Nodes.Pending → arity leaf ≡ 0
     → HasGrown made (with_leaf made at leaf) at leaf []
 whole_closes made at leaf h p none = record {
   kept = λ front back whole number.
-      subst (IsWhole (with_leaf made at leaf)) (there front back Nodes.Pending leaf) (whole_after_leaf made at (length front) leaf (front ++ Nodes.Pending ∷ back) h p none whole number);
+      subst (IsPreorder (with_leaf made at leaf)) (there front back Nodes.Pending leaf) (whole_after_leaf made at (length front) leaf (front ++ Nodes.Pending ∷ back) h p none whole number);
 }
 
 -- ---- nodes at their paths
@@ -174,5 +174,5 @@ closed_all made (k ∷ order) known h =
     All-cons IsClosed (node_of made k) (map (node_of made) order) (closed_of (node_of made k) (h k (All-head (λ (x : ℕ). x < length made) k order known)))
     (closed_all made order (All-tail (λ (x : ℕ). x < length made) k order known) h)
 
-pub whole_closed : (made : List Made) (nodes : List Node) → ((k : ℕ) → k < length made → node_of made k ≡ Nodes.Pending → ⊥) → IsWhole made nodes → All IsClosed nodes
+pub whole_closed : (made : List Made) (nodes : List Node) → ((k : ℕ) → k < length made → node_of made k ≡ Nodes.Pending → ⊥) → IsPreorder made nodes → All IsClosed nodes
 whole_closed made nodes h whole = subst (All IsClosed) (sym whole.nodes_are) (closed_all made whole.order whole.is.known h)

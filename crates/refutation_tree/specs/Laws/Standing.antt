@@ -6,7 +6,7 @@ use Rattle.std.specs.List.{position_or_len}
 use Rattle.refutation_tree.specs.Laws.Numbering.{place_is}
 use Rattle.model_laws.specs.Laws.Reading.{reads_weaker}
 use Rattle.refutation_tree.specs.Laws.Goodness.{path_at, AreGood, visits_reads}
-use Rattle.refutation_tree.specs.Grown.{made_at, node_of, children_of, Visits, IsOrder, IsWhole, IsNumber}
+use Rattle.refutation_tree.specs.Grown.{made_at, node_of, children_of, Visits, IsVisitOrder, IsPreorder, IsNumber}
 use Rattle.refutation_tree.specs.declared.growing.Made.{Made}
 use Rattle.seq_model.specs.Splits.{StandsAt}
 use Rattle.seq_model.specs.Trees.{Reads}
@@ -38,12 +38,12 @@ one_visit made (k ∷ a) (j ∷ b) (next ∷ todo) v w =
     let rest = one_visit made a b (children_of (made_at made k) ++ todo) v.1 (subst (λ x. Visits made (children_of (made_at made x) ++ todo) b []) (sym same) w.1) in
     ap (λ x. x ∷ a) same ∙ ap (λ l. j ∷ l) rest
 
-pub one_order : (made : List Made) (a b : List ℕ) → IsOrder made a → IsOrder made b → a ≡ b
+pub one_order : (made : List Made) (a b : List ℕ) → IsVisitOrder made a → IsVisitOrder made b → a ≡ b
 one_order made a b x y = one_visit made a b (0 ∷ []) x.visits y.visits
 
 -- node number i of the whole is the one that was made as number `at`, and stands at its path
 pub stands_at : (job : Job) (Good : List Choice → Node → Type 0) (made : List Made) (paths : List (List Choice)) (nodes : List Node) (at i : ℕ)
-    → AreGood job Good made paths → IsWhole made nodes → IsNumber made at i → StandsAt job nodes i (path_at paths at)
+    → AreGood job Good made paths → IsPreorder made nodes → IsNumber made at i → StandsAt job nodes i (path_at paths at)
 stands_at job Good made paths nodes at i are whole number =
     let same = one_order made number.order whole.order number.is whole.is in
     let ahead = visits_ahead made i number.order (0 ∷ []) [] number.known number.is.visits in
@@ -57,18 +57,18 @@ stands_at job Good made paths nodes at i are whole number =
     )
 
 -- and is that node
-pub number_is_node : (made : List Made) (nodes : List Node) (at i : ℕ) → IsWhole made nodes → IsNumber made at i → get_or nodes i Nodes.Pending ≡ node_of made at
+pub number_is_node : (made : List Made) (nodes : List Node) (at i : ℕ) → IsPreorder made nodes → IsNumber made at i → get_or nodes i Nodes.Pending ≡ node_of made at
 number_is_node made nodes at i whole number =
     ap (λ n. get_or n i Nodes.Pending) (whole.nodes_are ∙ ap (map (node_of made)) (sym (one_order made number.order whole.order number.is whole.is)))
     ∙ (get_or-map (node_of made) number.order i 0 Nodes.Pending number.known ∙ ap (node_of made) number.there)
 
-pub number_below : (made : List Made) (nodes : List Node) (at i : ℕ) → IsWhole made nodes → IsNumber made at i → i < length nodes
+pub number_below : (made : List Made) (nodes : List Node) (at i : ℕ) → IsPreorder made nodes → IsNumber made at i → i < length nodes
 number_below made nodes at i whole number =
     omega (arith, number.known, ap length (one_order made number.order whole.order number.is whole.is), ap length whole.nodes_are, length-map whole.order (node_of made))
 
-pub whole_length : (made : List Made) (nodes : List Node) → IsWhole made nodes → length nodes ≡ length made
+pub whole_length : (made : List Made) (nodes : List Node) → IsPreorder made nodes → length nodes ≡ length made
 whole_length made nodes whole = ap length whole.nodes_are ∙ (length-map whole.order (node_of made) ∙ whole.is.many)
 
 -- each node stands somewhere
-pub number_there : (made : List Made) (nodes : List Node) (at : ℕ) → IsWhole made nodes → at < length made → (i : ℕ) × IsNumber made at i
+pub number_there : (made : List Made) (nodes : List Node) (at : ℕ) → IsPreorder made nodes → at < length made → (i : ℕ) × IsNumber made at i
 number_there made nodes at whole h = (position_or_len (λ x. eqb x at) whole.order, place_is made whole.order at whole.is h)
