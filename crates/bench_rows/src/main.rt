@@ -28,7 +28,11 @@ fn drawn(state: u32) -> i64 {
 
 /// A number of 1 up to 9, or 0 where nothing stands there.
 fn some_or_none(state: u32, stands: bool) -> i64 {
-    if stands { i64::from(state >> 28) % 9 + 1 } else { 0 }
+    if stands {
+        i64::from(state >> 28) % 9 + 1
+    } else {
+        0
+    }
 }
 
 /// A row that meets the variable 0 by this coefficient, and each other variable by chance.
@@ -52,11 +56,11 @@ fn unit_rows(alloc: Global) -> Result<Vec<Row>, AllocError> {
     Ok(rows)
 }
 
-/// 64 rows that all meet all variables, as large numbers without a common divisor.
+/// 64 rows that mostly meet all variables, and all the first one.
 fn general_rows(alloc: Global) -> Result<Vec<Row>, AllocError> {
     let mut rows = Vec::new(alloc);
     for r in 0..64_u32 {
-        rows.push(dense_row(alloc, r * 77 + 5, some_or_none(next(r * 99), true) * 2 + 3)?)?;
+        rows.push(dense_row(alloc, r * 77 + 5, some_or_none(next(r), true))?)?;
     }
     Ok(rows)
 }
@@ -82,13 +86,13 @@ fn bounds(alloc: Global) -> Result<Vec<Row>, AllocError> {
 fn side_row(alloc: Global, i: u32, j: u32, x: i64, y: i64, far: i64) -> Result<Row, AllocError> {
     let mut a = Items::new(alloc);
     for k in 0..VARS {
-        let number = if k == 2 * i {
+        let number = if k % 2 == 0 && k / 2 == i {
             x.wrapping_neg()
-        } else if k == 2 * i + 1 {
+        } else if k / 2 == i {
             y.wrapping_neg()
-        } else if k == 2 * j {
+        } else if k % 2 == 0 && k / 2 == j {
             x
-        } else if k == 2 * j + 1 {
+        } else if k / 2 == j {
             y
         } else {
             0
@@ -130,7 +134,10 @@ fn dictionary_of(alloc: Global, rows: &[Row]) -> Option<Dictionary> {
 
 /// Whether one variable could take the place of another.
 fn swapped(dictionary: &mut Dictionary, leaving: u32, entering: u32) -> bool {
-    if !dictionary.is_basic(leaving) || !dictionary.is_free(entering) || dictionary.entry(leaving, entering) == 0 {
+    if !dictionary.is_basic(leaving)
+        || !dictionary.is_free(entering)
+        || dictionary.entry(leaving, entering) == 0
+    {
         return false;
     }
     dictionary.pivot(leaving, entering).is_ok()
@@ -150,13 +157,64 @@ fn there_and_back(dictionary: &mut Dictionary, times: u32, leaving: u32, enterin
     made
 }
 
-fn report(rt: &HostRuntime, what: &str, count: u64, calls: u128, start: Instant) -> io::Result<()> {
+fn report(rt: &HostRuntime, what: &str, count: u64, calls: u128, start: Instant) -> io::Result<()>
+    requires { 0 < calls }
+{
     let spent = start.elapsed(rt)?;
     println!(rt; "{what}: {count}")?;
-    if calls == 0 {
-        return Ok(());
-    }
     eprintln!(rt; "{what}: {} ns a call", spent.as_nanos() / calls)
+}
+
+fn time_pivots(
+    rt: &HostRuntime,
+    what: &str,
+    dictionary: &mut Dictionary,
+    leaving: u32,
+    entering: u32,
+) -> io::Result<()> {
+    let start = Instant::now(rt)?;
+    let made = there_and_back(dictionary, 5_000, leaving, entering);
+    report(rt, what, made, 10_000, start)
+}
+
+fn time_unit(rt: &HostRuntime, alloc: Global) -> io::Result<()> {
+    if let Ok(rows) = unit_rows(alloc) {
+        if let Some(mut dictionary) = dictionary_of(alloc, &rows) {
+            time_pivots(rt, "unit pivots", &mut dictionary, 32, 0)?;
+        }
+    }
+    Ok(())
+}
+
+fn time_general(rt: &HostRuntime, alloc: Global) -> io::Result<()> {
+    if let Ok(rows) = general_rows(alloc) {
+        if let Some(mut dictionary) = dictionary_of(alloc, &rows) {
+            let first = swapped(&mut dictionary, 32, 0);
+            let second = swapped(&mut dictionary, 34, 2);
+            println!(rt; "made ready: {first} {second}")?;
+            time_pivots(rt, "general pivots", &mut dictionary, 33, 1)?;
+        }
+    }
+    Ok(())
+}
+
+fn made_often(alloc: Global, rows: &[Row]) -> u64 {
+    let mut made = 0_u64;
+    for _ in 0..10_000_u32 {
+        if dictionary_of(alloc, rows).is_some() {
+            made = made.wrapping_add(1);
+        }
+    }
+    made
+}
+
+fn time_making(rt: &HostRuntime, alloc: Global) -> io::Result<()> {
+    if let Ok(rows) = bounds(alloc) {
+        let start = Instant::now(rt)?;
+        let made = made_often(alloc, &rows);
+        report(rt, "dictionaries of 32 bounds", made, 10_000, start)?;
+    }
+    Ok(())
 }
 
 fn solved(alloc: Global, rows: &[Row]) -> u64 {
@@ -164,60 +222,41 @@ fn solved(alloc: Global, rows: &[Row]) -> u64 {
         return 0;
     }
     match solve(alloc, VARS, rows) {
-        Ok(Solved::Point { den: _, nums }) => nums.len() as u64,
-        Ok(Solved::Contradiction(mults)) => 1_000 + mults.len() as u64,
-        Ok(Solved::Wide { basis: _, row: _ }) => 2_000,
-        Err(_) => 3_000,
+        Ok(Solved::Point { den: _, nums: _ }) => 1,
+        Ok(Solved::Contradiction(_)) => 2,
+        Ok(Solved::Wide { basis: _, row: _ }) => 3,
+        Err(_) => 4,
     }
 }
 
-fn timed(rt: &HostRuntime, alloc: Global, unit: &[Row], general: &[Row], bounds: &[Row], sides: &[Row]) -> io::Result<bool> {
-    let (Some(mut once), Some(mut twice), Some(mut early)) = (
-        dictionary_of(alloc, unit),
-        dictionary_of(alloc, general),
-        dictionary_of(alloc, general),
-    ) else {
-        return Ok(false);
-    };
-    let start = Instant::now(rt)?;
-    let made = there_and_back(&mut once, 50_000, 32, 0);
-    report(rt, "unit pivots", made, 100_000, start)?;
-
-    let start = Instant::now(rt)?;
-    let made = there_and_back(&mut early, 500, 33, 1);
-    report(rt, "pivots at denominator 1 there, and back", made, 1_000, start)?;
-
-    let ready = swapped(&mut twice, 32, 0) && swapped(&mut twice, 34, 2);
-    let start = Instant::now(rt)?;
-    let made = there_and_back(&mut twice, 500, 33, 1);
-    report(rt, "general pivots", made, 1_000, start)?;
-
-    let start = Instant::now(rt)?;
-    let mut count = 0_u64;
-    for _ in 0..10_000_u32 {
-        if dictionary_of(alloc, bounds).is_some() {
-            count = count.wrapping_add(1);
-        }
-    }
-    report(rt, "dictionaries of 32 bounds", count, 10_000, start)?;
-
-    let start = Instant::now(rt)?;
-    let mut count = 0_u64;
+fn solved_often(alloc: Global, rows: &[Row]) -> u64 {
+    let mut sum = 0_u64;
     for _ in 0..100_u32 {
-        count = count.wrapping_add(solved(alloc, sides));
+        sum = sum.wrapping_add(solved(alloc, rows));
     }
-    report(rt, "systems of 130 rows, numbers found", count, 100, start)?;
-    Ok(ready)
+    sum
+}
+
+fn time_solving(rt: &HostRuntime, alloc: Global) -> io::Result<()> {
+    if let Ok(rows) = sides(alloc) {
+        let start = Instant::now(rt)?;
+        let sum = solved_often(alloc, &rows);
+        report(rt, "systems of 130 rows", sum, 100, start)?;
+    }
+    Ok(())
+}
+
+fn timed(rt: &HostRuntime) -> io::Result<()> {
+    let alloc = rt.alloc();
+    time_unit(rt, alloc)?;
+    time_general(rt, alloc)?;
+    time_making(rt, alloc)?;
+    time_solving(rt, alloc)
 }
 
 fn main(rt: HostRuntime) -> ExitCode {
-    let alloc = rt.alloc();
-    let (Ok(unit), Ok(general), Ok(bounds), Ok(sides)) = (unit_rows(alloc), general_rows(alloc), bounds(alloc), sides(alloc)) else {
-        return ExitCode::from(9);
-    };
-    match timed(&rt, alloc, &unit, &general, &bounds, &sides) {
-        Ok(true) => ExitCode::from(0),
-        Ok(false) => ExitCode::from(1),
+    match timed(&rt) {
+        Ok(()) => ExitCode::from(0),
         Err(_) => ExitCode::from(8),
     }
 }

@@ -47,8 +47,8 @@ moved rows start old new h r out into t = record {
       (reached_next old.vars rows start (rising (old.vars + length rows) old.basic) (rising (old.vars + length rows) (swapped old.basic out into)) r (pivots_to old.vars rows old.d old.basic old.free old.lines h out into at en) (λ w. t.5 w.0 w.1)));
   fewer = subst (λ v. steps_left (v + length rows) (2 ^ (v + length rows)) (table (v + length rows) new.d new.basic new.free new.lines) < steps_of rows old) (sym t.2)
       (subst (λ b. steps_left (old.vars + length rows) (2 ^ (old.vars + length rows)) (table (old.vars + length rows) new.d b new.free new.lines) < steps_of rows old) (sym t.3)
-        (fewer old.vars rows old.d old.basic old.free old.lines h out into at en new.d new.free new.lines
-          (subst (λ v. Holds v rows new.d (swapped old.basic out into) new.free new.lines) t.2 (subst (λ b. Holds new.vars rows new.d b new.free new.lines) t.3 t.4))));
+      (fewer old.vars rows old.d old.basic old.free old.lines h out into at en new.d new.free new.lines
+      (subst (λ v. Holds v rows new.d (swapped old.basic out into) new.free new.lines) t.2 (subst (λ b. Holds new.vars rows new.d b new.free new.lines) t.3 t.4))));
 }
   where
     at : LeavesAt old.basic old.lines out
@@ -104,10 +104,14 @@ solves rows t h r Turns.Point e (Solveds.Contradiction list) a = absurd a
 solves rows t h r Turns.Point e (Solveds.Wide basis row) a = absurd a
 solves rows t h r (Turns.Contradiction out) e (Solveds.Point den list) a = absurd a
 solves rows t h r (Turns.Contradiction out) e (Solveds.Contradiction list) a =
-    subst (λ (ms : List Mult). Contradiction rows ms × Rises (length rows) (map (λ (m : Mult). m.row) ms) × All (λ (m : Mult). pos 1 ≤ℤ m.times) ms × (0 < length ms) × (length ms ≤ suc t.vars) × NeverWide t.vars rows) (sym is)
-    (both, rising_mults t.vars w (length rows), All-from_in (λ (m : Mult). pos 1 ≤ℤ m.times) (mults t.vars w (length rows)) (λ m i. let s = (taken_of t.vars w (length rows) m i).some in omega (arith, ints, s)),
-      some_mults rows (mults t.vars w (length rows)) both, few_mults t.vars rows t.d t.basic t.free t.lines h out at.member (line_or out t.basic t.lines),
-      never_wide t.vars rows (slacks t.vars rows) (rising (t.vars + length rows) t.basic) r (stops_none t.vars rows t.d t.basic t.free t.lines h out at none))
+    subst (λ (ms : List Mult). Contradiction rows ms × Rises (length rows) (map (λ (m : Mult). m.row) ms) × All (λ (m : Mult). pos 1 ≤ℤ m.times) ms × (0 < length ms) × (length ms ≤ suc t.vars) × NeverWide t.vars rows) (sym is) (
+      both,
+      rising_mults t.vars w (length rows),
+      All-from_in (λ (m : Mult). pos 1 ≤ℤ m.times) (mults t.vars w (length rows)) (λ m i. let s = (taken_of t.vars w (length rows) m i).some in omega (arith, ints, s)),
+      some_mults rows (mults t.vars w (length rows)) both,
+      few_mults t.vars rows t.d t.basic t.free t.lines h out at.member (line_or out t.basic t.lines),
+      never_wide t.vars rows (slacks t.vars rows) (rising (t.vars + length rows) t.basic) r (stops_none t.vars rows t.d t.basic t.free t.lines h out at none),
+    )
   where
     w : ℕ → ℤ
     w = weight t.d out t.free (line_or out t.basic t.lines)
@@ -129,7 +133,7 @@ solves rows t h r (Turns.Wide out into row) e (Solveds.Contradiction list) a = a
 solves rows t h r (Turns.Wide out into row) e (Solveds.Wide basis k) a =
     subst (λ (b : List ℕ). WalkWide t.vars rows b k) (sym (a.0 ∙ ap (λ n. rising (t.vars + n) (swapped t.basic out into)) h.many))
     (subst (WalkWide t.vars rows (rising (t.vars + length rows) (swapped t.basic out into))) (sym a.1)
-      (walk_wide t.vars rows (slacks t.vars rows) (rising (t.vars + length rows) t.basic) (rising (t.vars + length rows) (swapped t.basic out into)) row r (pivots_to t.vars rows t.d t.basic t.free t.lines h out into at en) e.1.3 e.1.4))
+    (walk_wide t.vars rows (slacks t.vars rows) (rising (t.vars + length rows) t.basic) (rising (t.vars + length rows) (swapped t.basic out into)) row r (pivots_to t.vars rows t.d t.basic t.free t.lines h out into at en) e.1.3 e.1.4))
   where
     at : LeavesAt t.basic t.lines out
     at = leaves_at t.vars rows t.d t.basic t.free t.lines h out e.1.1

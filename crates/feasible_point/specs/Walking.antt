@@ -163,9 +163,9 @@ pub next_is : (vars : ℕ) (rows : List Row) (d : ℤ) (basic free : List ℕ) (
 next_is vars rows d basic free lines h out into at en e gone others k =
     ap (next_of (vars + length rows)) (sym same)
     ∙ seen_next vars rows h.rows_are (rising (vars + length rows) basic) F.form out into l.0
-        (subst (λ (t : List ℤ). Enters (free_of (vars + length rows) (rising (vars + length rows) basic)) (entries t) into) (sym l.1) (form_enters vars rows d basic free lines h (line_or out basic lines) into en))
-        (table (vars + length rows) e (swapped basic out into) gone others) (record { form = G.form; d_is = G.d_is; lines_are = G.lines_are })
-        (swaps_in vars rows d basic free lines h out into at.member en.member)
+    (subst (λ (t : List ℤ). Enters (free_of (vars + length rows) (rising (vars + length rows) basic)) (entries t) into) (sym l.1) (form_enters vars rows d basic free lines h (line_or out basic lines) into en))
+    (table (vars + length rows) e (swapped basic out into) gone others) (record { form = G.form; d_is = G.d_is; lines_are = G.lines_are })
+    (swaps_in vars rows d basic free lines h out into at.member en.member)
   where
     F : Held vars rows d basic free lines
     F = held vars rows d basic free lines h
@@ -182,7 +182,7 @@ next_is vars rows d basic free lines h out into at en e gone others k =
 pub fewer : (vars : ℕ) (rows : List Row) (d : ℤ) (basic free : List ℕ) (lines : List (List ℤ)) → Holds vars rows d basic free lines → (out into : ℕ) → LeavesAt basic lines out → EntersAt free (line_or out basic lines) into
     → (e : ℤ) (gone : List ℕ) (others : List (List ℤ)) → Holds vars rows e (swapped basic out into) gone others
     → steps_left (vars + length rows) (2 ^ (vars + length rows)) (table (vars + length rows) e (swapped basic out into) gone others)
-        < steps_left (vars + length rows) (2 ^ (vars + length rows)) (table (vars + length rows) d basic free lines)
+    < steps_left (vars + length rows) (2 ^ (vars + length rows)) (table (vars + length rows) d basic free lines)
 fewer vars rows d basic free lines h out into at en e gone others k =
     falls vars rows h.rows_are (table (vars + length rows) d basic free lines) (table (vars + length rows) e (swapped basic out into) gone others)
     (let F = held vars rows d basic free lines h in record { form = F.form; d_is = F.d_is; lines_are = F.lines_are })
@@ -284,8 +284,8 @@ meets vars rows d basic free lines h none = subst (λ c. MeetsRows rows c (nums 
         by : ((is_in basic z ≡ true) ⊎ (is_in basic z ≡ false)) → constant (line_or z (rising (vars + length rows) basic) (sorted_lines (vars + length rows) basic free lines)) ≡ constant (line_or z basic lines)
         by (inl e) = ap constant
             (line_is z (rising (vars + length rows) basic) (sorted_lines (vars + length rows) basic free lines) (sorted_line (vars + length rows) basic free (line_or z basic lines))
-              (climbs_fresh 0 (vars + length rows) (rising (vars + length rows) basic) (filter_climbs (is_in basic) 0 (vars + length rows) (vars + length rows) (omega arith)))
-              (has_map (λ y. sorted_line (vars + length rows) basic free (line_or y basic lines)) (rising (vars + length rows) basic) z ((rising_members (vars + length rows) basic h.small_basic z).1 (in_basis basic z e))))
+            (climbs_fresh 0 (vars + length rows) (rising (vars + length rows) basic) (filter_climbs (is_in basic) 0 (vars + length rows) (vars + length rows) (omega arith)))
+            (has_map (λ y. sorted_line (vars + length rows) basic free (line_or y basic lines)) (rising (vars + length rows) basic) z ((rising_members (vars + length rows) basic h.small_basic z).1 (in_basis basic z e))))
         by (inr e) =
             ap constant (line_none z (rising (vars + length rows) basic) (sorted_lines (vars + length rows) basic free lines) (λ i. not_in ((rising_members (vars + length rows) basic h.small_basic z).0 i)))
             ∙ sym (ap constant (line_none z basic lines not_in))

@@ -21,14 +21,38 @@ enum Found {
 
 static SOLVED: [(&[(i64, [i64; 2])], Found); 9] = [
     (&[(-1, [2, 0])], Found::Point { den: 2, x: 1, y: 0 }),
-    (&[(-5, [1, 0]), (3, [-1, 0])], Found::Pair { rows: (0, 1), times: (1, 1) }),
+    (
+        &[(-5, [1, 0]), (3, [-1, 0])],
+        Found::Pair {
+            rows: (0, 1),
+            times: (1, 1),
+        },
+    ),
     (&[], Found::Point { den: 1, x: 0, y: 0 }),
-    (&[(-1, [BIG, 0]), (-2, [1, 3])], Found::Wide { basis: (0, 3), row: 3 }),
-    (&[(4, [-1, -1]), (0, [1, 1])], Found::Point { den: 1, x: 0, y: 0 }),
-    (&[(-3, [2, 1]), (8, [-1, -1])], Found::Point { den: 2, x: 3, y: 0 }),
+    (
+        &[(-1, [BIG, 0]), (-2, [1, 3])],
+        Found::Wide {
+            basis: (0, 3),
+            row: 3,
+        },
+    ),
+    (
+        &[(4, [-1, -1]), (0, [1, 1])],
+        Found::Point { den: 1, x: 0, y: 0 },
+    ),
+    (
+        &[(-3, [2, 1]), (8, [-1, -1])],
+        Found::Point { den: 2, x: 3, y: 0 },
+    ),
     (&[(-1, [0, 0])], Found::Alone { row: 0, times: 1 }),
     (&[(-2, [-1, -3])], Found::Alone { row: 0, times: 1 }),
-    (&[(-4, [1, -1]), (-1, [-1, 1])], Found::Pair { rows: (0, 1), times: (1, 1) }),
+    (
+        &[(-4, [1, -1]), (-1, [-1, 1])],
+        Found::Pair {
+            rows: (0, 1),
+            times: (1, 1),
+        },
+    ),
 ];
 
 fn rows_of(alloc: Global, rows: &[(i64, [i64; 2])]) -> Result<Vec<Row>, AllocError> {
@@ -47,29 +71,47 @@ fn found_in(solved: &Solved) -> Found {
     match solved {
         Solved::Point { den, nums } => {
             if nums.len() == 2 {
-                return Found::Point { den: *den, x: nums[0], y: nums[1] };
+                return Found::Point {
+                    den: *den,
+                    x: nums[0],
+                    y: nums[1],
+                };
             }
             Found::Other
         }
         Solved::Contradiction(mults) => {
             if mults.len() == 1 {
-                return Found::Alone { row: mults[0].row, times: mults[0].times };
+                return Found::Alone {
+                    row: mults[0].row,
+                    times: mults[0].times,
+                };
             }
             if mults.len() == 2 {
-                return Found::Pair { rows: (mults[0].row, mults[1].row), times: (mults[0].times, mults[1].times) };
+                return Found::Pair {
+                    rows: (mults[0].row, mults[1].row),
+                    times: (mults[0].times, mults[1].times),
+                };
             }
             Found::Other
         }
         Solved::Wide { basis, row } => {
             if basis.len() == 2 {
-                return Found::Wide { basis: (basis[0], basis[1]), row: *row };
+                return Found::Wide {
+                    basis: (basis[0], basis[1]),
+                    row: *row,
+                };
             }
             Found::Other
         }
     }
 }
 
-fn see_solved(rt: &impl Abort, alloc: Global, rows: &[(i64, [i64; 2])], wanted: Found) -> Result<(), Fail> {
+fn see_solved(
+    rt: &impl Abort,
+    alloc: Global,
+    rows: &[(i64, [i64; 2])],
+    wanted: Found,
+) -> Result<(), Fail> {
     let rows = rows_of(alloc, rows)?;
     assert!(rt; rows.len() < 100 && are_rows_of(2, &rows) && are_small_rows(&rows));
     assert_eq!(rt; found_in(&solve(alloc, 2, &rows)?), wanted);

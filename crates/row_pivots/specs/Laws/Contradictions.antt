@@ -249,10 +249,10 @@ weighted vars rows d basic free lines h out i (c ∷ es) l j =
     one_entry 0 (vars + length rows) out d (λ z. neg_ℤ (entry_of z free es)) (meaning vars rows) j (range_with_len 0 (vars + length rows)) (range_climbs 0 (vars + length rows) (vars + length rows) (omega arith))
     (ap neg_ℤ (entry_none out free es (λ k. h.apart out k i))) (In-range 0 (vars + length rows) out (omega arith) (omega (arith, h.small_basic out i)))
     ∙ together d (get_or (meaning vars rows out) j (pos 0)) c (get_or (one vars) j (pos 0)) (dot es (column j (map (meaning vars rows) free))) _ _
-        (line_each vars rows d free out (c ∷ es) l j)
-        (minus_dot (λ z. entry_of z free es) (range_with_len 0 (vars + length rows)) (column j (map (meaning vars rows) (range_with_len 0 (vars + length rows)))))
-        (same_sum (vars + length rows) (meaning vars rows) j free es (range_with_len 0 (vars + length rows)) (omega (arith, l.0)) h.fresh_free (range_climbs 0 (vars + length rows) (vars + length rows) (omega arith))
-          (λ y k. In-range 0 (vars + length rows) y (omega arith) (omega (arith, h.small_free y k))))
+    (line_each vars rows d free out (c ∷ es) l j)
+    (minus_dot (λ z. entry_of z free es) (range_with_len 0 (vars + length rows)) (column j (map (meaning vars rows) (range_with_len 0 (vars + length rows)))))
+    (same_sum (vars + length rows) (meaning vars rows) j free es (range_with_len 0 (vars + length rows)) (omega (arith, l.0)) h.fresh_free (range_climbs 0 (vars + length rows) (vars + length rows) (omega arith))
+    (λ y k. In-range 0 (vars + length rows) y (omega arith) (omega (arith, h.small_free y k))))
   where
     together : (d x c o s m t : ℤ) → d *ℤ x ≡ c *ℤ o +ℤ s → m ≡ neg_ℤ t → s ≡ t → d *ℤ x +ℤ m ≡ c *ℤ o
     together d x c o s m t e f g = omega (arith, ints, e, f, g)

@@ -34,8 +34,8 @@ pub seen_next : (vars : ℕ) (rows : List Row) → AreRowsOf vars rows → (basi
 seen_next vars rows are basis f out into l en m is swaps =
     ap (after_leaving (vars + length rows) (table_of vars rows basis f)) (leaving_is vars rows basis f out l)
     ∙ ap (after_entering (vars + length rows) (table_of vars rows basis f) out)
-        (ap (entering (free_of (vars + length rows) basis)) (line_of_has 0 (vars + length rows) basis f.lines out l.line (from_zero (vars + length rows) basis f.rising) l.has)
-          ∙ entering_is (free_of (vars + length rows) basis) l.line ∙ first_is (vars + length rows) basis (entries l.line) into en)
+    (ap (entering (free_of (vars + length rows) basis)) (line_of_has 0 (vars + length rows) basis f.lines out l.line (from_zero (vars + length rows) basis f.rising) l.has)
+    ∙ entering_is (free_of (vars + length rows) basis) l.line ∙ first_is (vars + length rows) basis (entries l.line) into en)
     ∙ ap Some (one_table vars rows (pivoted (vars + length rows) (table_of vars rows basis f) out into) m same next.table is)
   where
     next : NextStep vars rows basis (pivoted (vars + length rows) (table_of vars rows basis f) out into)

@@ -85,7 +85,7 @@ one_held vars rows d e basic free L M h k = (sym F.d_is ∙ same.0 ∙ G.d_is, s
     each z i =
         same_line (vars + length rows) basic free (line_or z basic L) (line_or z basic M) (says_or vars rows d free basic L h.says z i).0 (says_or vars rows e free basic M k.says z i).0 h.fresh_free into
         (map_at (λ z. sorted_line (vars + length rows) basic free (line_or z basic L)) (λ z. sorted_line (vars + length rows) basic free (line_or z basic M)) (rising (vars + length rows) basic) sorted z
-          ((rising_members (vars + length rows) basic h.small_basic z).1 i))
+        ((rising_members (vars + length rows) basic h.small_basic z).1 i))
 
 pub swapped_back : (xs : List ℕ) (r y d : ℕ) → set (set xs r y) r (get_or xs r d) ≡ xs
 swapped_back [] r y d = refl

@@ -130,10 +130,12 @@ vectors_long vars rows are free small v (inr i) = let k = In-map_cases (meaning 
 pub line_from : (vars : ℕ) (rows : List Row) → AreRowsOf vars rows → (d : ℤ) (free : List ℕ) → InRange (vars + length rows) free → (z : ℕ) → z < vars + length rows → (line : List ℤ) → length line ≡ suc (length free)
     → ((j : ℕ) → d *ℤ get_or (meaning vars rows z) j (pos 0) ≡ dot line (column j (one vars ∷ map (meaning vars rows) free))) → Line vars rows d free z line
 line_from vars rows are d free small z h [] long each = absurd (omega (arith, long))
-line_from vars rows are d free small z h (e ∷ es) long each =
-    (long, list_same (scale d (meaning vars rows z)) (combination (e ∷ es) (one vars ∷ map (meaning vars rows) free))
+line_from vars rows are d free small z h (e ∷ es) long each = (
+  long,
+  list_same (scale d (meaning vars rows z)) (combination (e ∷ es) (one vars ∷ map (meaning vars rows) free))
       (length-scale d (meaning vars rows z) ∙ long_meaning vars rows are z h ∙ sym (long_combination (suc vars) e es (one vars) (map (meaning vars rows) free) (vectors_long vars rows are free small)))
-      (λ j. get_or-scale d (meaning vars rows z) j ∙ each j ∙ sym (column_at (e ∷ es) (one vars ∷ map (meaning vars rows) free) j)))
+      (λ j. get_or-scale d (meaning vars rows z) j ∙ each j ∙ sym (column_at (e ∷ es) (one vars ∷ map (meaning vars rows) free) j)),
+)
 
 pub line_each : (vars : ℕ) (rows : List Row) (d : ℤ) (free : List ℕ) (z : ℕ) (line : List ℤ) → Line vars rows d free z line
     → (j : ℕ) → d *ℤ get_or (meaning vars rows z) j (pos 0) ≡ dot line (column j (one vars ∷ map (meaning vars rows) free))

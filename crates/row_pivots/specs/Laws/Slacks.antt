@@ -146,8 +146,8 @@ slack_table vars rows are = record {
     each i w h =
         line_from vars rows are (pos 1) (range_with_len 0 vars) small_free (vars + i) (omega (arith, h)) ((get_or rows i w).c ∷ (get_or rows i w).a) (ap suc (are i w h ∙ sym long_free))
         (λ j. one_times (get_or (meaning vars rows (vars + i)) j (pos 0))
-          ∙ ap (λ v. get_or v j (pos 0)) (slack_is vars rows i ∙ ap (λ (row : Row). row.c ∷ row.a) (any_default rows i no_row w h))
-          ∙ sym (by_variables vars rows (get_or rows i w).c (get_or rows i w).a (are i w h) j))
+        ∙ ap (λ v. get_or v j (pos 0)) (slack_is vars rows i ∙ ap (λ (row : Row). row.c ∷ row.a) (any_default rows i no_row w h))
+        ∙ sym (by_variables vars rows (get_or rows i w).c (get_or rows i w).a (are i w h) j))
       where
         one_times : (x : ℤ) → pos 1 *ℤ x ≡ x
         one_times x = omega (arith, ints)

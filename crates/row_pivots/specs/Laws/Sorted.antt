@@ -199,7 +199,7 @@ sorted_says vars rows d basic free lines h z i = by (line_or z basic lines) (say
         line_from vars rows h.rows_are d (free_of (vars + length rows) basic) (λ y k. (below 0 (vars + length rows) (free_of (vars + length rows) basic) y (free_climbs (vars + length rows) basic) k).1) z (h.small_basic z i)
         (sorted_line (vars + length rows) basic free (c ∷ es)) (ap suc (length-map (free_of (vars + length rows) basic) (λ y. entry_of y free es)))
         (λ j. line_each vars rows d free z (c ∷ es) l j
-          ∙ ap (λ t. c *ℤ get_or (one vars) j (pos 0) +ℤ t) (same_sum (vars + length rows) (meaning vars rows) j free es (free_of (vars + length rows) basic) (omega (arith, l.0)) h.fresh_free (free_climbs (vars + length rows) basic) into))
+        ∙ ap (λ t. c *ℤ get_or (one vars) j (pos 0) +ℤ t) (same_sum (vars + length rows) (meaning vars rows) j free es (free_of (vars + length rows) basic) (omega (arith, l.0)) h.fresh_free (free_climbs (vars + length rows) basic) into))
 
 -- all numbers of the table stand in the sorted one
 pub has_of : {X : Type 0} (zs : List ℕ) (xs : List X) (x : X) → length zs ≡ length xs → In x xs → (z : ℕ) × Has zs xs z x
@@ -232,7 +232,7 @@ sorted_divides vars rows d basic free lines h k a = (a.0, All-from_in (λ line. 
         whole line m =
             subst (λ t. All (λ x. k ∣ unsigned_abs x) (sorted_line (vars + length rows) basic free t)) (line_is at.0 basic lines line h.fresh_basic m)
             (All-in (λ line. All (λ x. k ∣ unsigned_abs x) line) (sorted_lines (vars + length rows) basic free lines) (sorted_line (vars + length rows) basic free (line_or at.0 basic lines)) a.1
-              (In-map (λ z. sorted_line (vars + length rows) basic free (line_or z basic lines)) (rising (vars + length rows) basic) at.0 ((rising_members (vars + length rows) basic h.small_basic at.0).1 place)))
+            (In-map (λ z. sorted_line (vars + length rows) basic free (line_or z basic lines)) (rising (vars + length rows) basic) at.0 ((rising_members (vars + length rows) basic h.small_basic at.0).1 place)))
 
         by : (line : List ℤ) → Has basic lines at.0 line → Line vars rows d free at.0 line → In x line → k ∣ unsigned_abs x
         by [] m l e = absurd e
@@ -242,7 +242,7 @@ sorted_divides vars rows d basic free lines h k a = (a.0, All-from_in (λ line. 
             let in_free = member_of free es y.0 x y.1 in
             subst (λ t. k ∣ unsigned_abs t) (entry_is y.0 free es x h.fresh_free y.1)
             (All-in (λ x. k ∣ unsigned_abs x) (sorted_line (vars + length rows) basic free (c ∷ es)) (entry_of y.0 free es) (whole (c ∷ es) m)
-              (inr (In-map (λ y. entry_of y free es) (free_of (vars + length rows) basic) y.0 (free_member (vars + length rows) basic y.0 (h.small_free y.0 in_free) (h.apart y.0 in_free)))))
+            (inr (In-map (λ y. entry_of y free es) (free_of (vars + length rows) basic) y.0 (free_member (vars + length rows) basic y.0 (h.small_free y.0 in_free) (h.apart y.0 in_free)))))
 
 pub held : (vars : ℕ) (rows : List Row) (d : ℤ) (basic free : List ℕ) (lines : List (List ℤ)) → Holds vars rows d basic free lines → Held vars rows d basic free lines
 held vars rows d basic free lines h = record {
@@ -254,7 +254,7 @@ held vars rows d basic free lines h = record {
     positive = h.positive;
     says = subst (λ t. Says vars rows d t (rising (vars + length rows) basic) (sorted_lines (vars + length rows) basic free lines)) (sym (same_free (vars + length rows) basic h.small_basic))
         (zip_map (λ z line. Line vars rows d (free_of (vars + length rows) basic) z line) (λ z. sorted_line (vars + length rows) basic free (line_or z basic lines)) (rising (vars + length rows) basic)
-          (λ z i. sorted_says vars rows d basic free lines h z ((rising_members (vars + length rows) basic h.small_basic z).0 i)));
+        (λ z i. sorted_says vars rows d basic free lines h z ((rising_members (vars + length rows) basic h.small_basic z).0 i)));
     reduced = λ k a. h.reduced k (sorted_divides vars rows d basic free lines h k a);
   };
   d_is = refl;

@@ -75,7 +75,7 @@ says_turned vars rows are d free basic lines small_free small_basic r s in_r in_
     let leaves = says_at vars rows d free basic lines r in_r says in
     all_stay vars rows are d free small_free s out in_s in_out ys leaves (set basic r into) (prepared d lines r (suc s)) (range_set (vars + length rows) basic r into small_basic in_into)
     (says_set vars rows d free basic lines r into (unit_line (length ys) (suc s) d) says
-      (subst (λ n. Line vars rows d free into (unit_line n (suc s) d)) (sym leaves.0) (unit_says vars rows are d free small_free s in_s)))
+    (subst (λ n. Line vars rows d free into (unit_line n (suc s) d)) (sym leaves.0) (unit_says vars rows are d free small_free s in_s)))
 
 -- ---- what stands in the lists
 pub fresh_set : (xs : List ℕ) (i y : ℕ) → Fresh xs → (In y xs → ⊥) → Fresh (set xs i y)
@@ -163,8 +163,8 @@ turned vars rows d basic free lines h r s in_r in_s g some content sign = record
   says = says_divided vars rows h.rows_are g (int_div D g) some (set free s out) (range_set (vars + length rows) free s out h.small_free (h.small_basic out basic_out)) (set basic r into)
       (range_set (vars + length rows) basic r into h.small_basic (h.small_free into free_into)) (map (quotients g) N)
       (subst (λ e. Says vars rows e (set free s out) (set basic r into) (map (scale g) (map (quotients g) N))) (exact_quotient D g all.0)
-        (subst (λ l. Says vars rows D (set free s out) (set basic r into) l) (exact_lines g N each)
-          (says_turned vars rows h.rows_are d free basic lines h.small_free h.small_basic r s in_r in_s h.says)));
+      (subst (λ l. Says vars rows D (set free s out) (set basic r into) l) (exact_lines g N each)
+      (says_turned vars rows h.rows_are d free basic lines h.small_free h.small_basic r s in_r in_s h.says)));
   reduced = reduced;
 }
   where
@@ -226,4 +226,4 @@ turned vars rows d basic free lines h r s in_r in_s g some content sign = record
 
         rest : All (λ l. All (λ x. unsigned_abs g * k ∣ unsigned_abs x) l) N
         rest = All-from_in (λ l. All (λ x. unsigned_abs g * k ∣ unsigned_abs x) l) N (λ l i. All-from_in (λ x. unsigned_abs g * k ∣ unsigned_abs x) l (λ x j.
-              times x (each l i x j) (All-in (λ x. k ∣ unsigned_abs x) (quotients g l) (int_div x g) (All-in (λ l. All (λ x. k ∣ unsigned_abs x) l) (map (quotients g) N) (quotients g l) a.1 (In-map (quotients g) N l i)) (In-map (λ x. int_div x g) l x j))))
+            times x (each l i x j) (All-in (λ x. k ∣ unsigned_abs x) (quotients g l) (int_div x g) (All-in (λ l. All (λ x. k ∣ unsigned_abs x) l) (map (quotients g) N) (quotients g l) a.1 (In-map (quotients g) N l i)) (In-map (λ x. int_div x g) l x j))))
