@@ -9,34 +9,55 @@ use convex_outline::hull;
 use seq_model::{Dir, RatPoint, Spot};
 use seq_num::NoMemory;
 use std::alloc::{AllocError, Global};
+use std::process::Abort;
 use std::test::Fail;
 
-// Outlines in grains: a cube and a wedge of 20 mm with their margins, a nozzle, the tip, a triangle and a bar.
-static CUBE: [(i8, i8); 4] = [(-1, -1), (21, -1), (21, 21), (-1, 21)];
-static WEDGE: [(i8, i8); 5] = [(-1, -1), (21, -1), (21, 1), (1, 21), (-1, 21)];
-static NOZZLE: [(i8, i8); 4] = [(-2, -2), (2, -2), (2, 2), (-2, 2)];
-static TIP: [(i8, i8); 1] = [(0, 0)];
-static TRIANGLE: [(i8, i8); 3] = [(0, 0), (6, 1), (2, 5)];
-static BAR: [(i8, i8); 2] = [(-3, 0), (5, 2)];
+#[derive(Clone, Copy)]
+enum Shape {
+    Cube,
+    Wedge,
+    Nozzle,
+    Tip,
+    Triangle,
+    Bar,
+}
+
+// Their corners in grains: a cube and a wedge of 20 mm with their margins, the parts of a printer, and two that aren't symmetric.
+fn corners_of(shape: Shape) -> &'static [(i8, i8)] {
+    match shape {
+        Shape::Cube => &[(-1, -1), (21, -1), (21, 21), (-1, 21)],
+        Shape::Wedge => &[(-1, -1), (21, -1), (21, 1), (1, 21), (-1, 21)],
+        Shape::Nozzle => &[(-2, -2), (2, -2), (2, 2), (-2, 2)],
+        Shape::Tip => &[(0, 0)],
+        Shape::Triangle => &[(0, 0), (6, 1), (2, 5)],
+        Shape::Bar => &[(-3, 0), (5, 2)],
+    }
+}
+
+fn spot(pair: &(i8, i8)) -> Spot
+    ensures { IsNarrow result }
+{
+    Spot {
+        x: i64::from(pair.0),
+        y: i64::from(pair.1),
+    }
+}
 
 fn spots(alloc: Global, pairs: &[(i8, i8)]) -> Result<Vec<Spot>, AllocError>
     ensures { IfOk result (λ spots. All IsNarrow spots.items) }
 {
     let mut spots = Vec::new(alloc);
     for pair in pairs {
-        spots.push(Spot {
-            x: i64::from(pair.0),
-            y: i64::from(pair.1),
-        })?;
+        spots.push(spot(pair))?;
     }
     Ok(spots)
 }
 
-fn outline(alloc: Global, pairs: &[(i8, i8)]) -> Result<Vec<Spot>, NoMemory>
+fn outline(alloc: Global, shape: Shape) -> Result<Vec<Spot>, NoMemory>
     ensures corners { IfOk result (λ corners. AreCorners corners.items) }
     ensures near { IfOk result (λ corners. All IsNarrow corners.items) }
 {
-    let given = spots(alloc, pairs)?;
+    let given = spots(alloc, corners_of(shape))?;
     hull(alloc, given.as_slice())
 }
 
@@ -57,22 +78,99 @@ fn are_rows(dirs: &[Dir], rows: &[(i64, i64, i64)], a: &[Spot], b: &[Spot], f: &
 }
 
 // Three outlines, and the sides of their difference with the greatest values.
-static ROWS: [(&[(i8, i8)], &[(i8, i8)], &[(i8, i8)], &[(i64, i64, i64)]); 4] = [
-    (&WEDGE, &WEDGE, &NOZZLE, &[(1, 0, 24), (1, 1, 28), (0, 1, 24), (-1, 0, 24), (-1, -1, 28), (0, -1, 24)]),
-    (&CUBE, &CUBE, &NOZZLE, &[(1, 0, 24), (0, 1, 24), (-1, 0, 24), (0, -1, 24)]),
-    (&CUBE, &CUBE, &TIP, &[(1, 0, 22), (0, 1, 22), (-1, 0, 22), (0, -1, 22)]),
-    (&TRIANGLE, &CUBE, &BAR, &[(1, 0, 10), (1, 1, 12), (0, 1, 6), (-1, 4, 40), (-5, 2, 128), (-1, 0, 26), (0, -1, 23), (1, -6, 134), (1, -4, 90)]),
+static ROWS: [((Shape, Shape, Shape), &[(i64, i64, i64)]); 4] = [
+    (
+        (Shape::Wedge, Shape::Wedge, Shape::Nozzle),
+        &[
+            (1, 0, 24),
+            (1, 1, 28),
+            (0, 1, 24),
+            (-1, 0, 24),
+            (-1, -1, 28),
+            (0, -1, 24),
+        ],
+    ),
+    (
+        (Shape::Cube, Shape::Cube, Shape::Nozzle),
+        &[(1, 0, 24), (0, 1, 24), (-1, 0, 24), (0, -1, 24)],
+    ),
+    (
+        (Shape::Cube, Shape::Cube, Shape::Tip),
+        &[(1, 0, 22), (0, 1, 22), (-1, 0, 22), (0, -1, 22)],
+    ),
+    (
+        (Shape::Triangle, Shape::Cube, Shape::Bar),
+        &[
+            (1, 0, 10),
+            (1, 1, 12),
+            (0, 1, 6),
+            (-1, 4, 40),
+            (-5, 2, 128),
+            (-1, 0, 26),
+            (0, -1, 23),
+            (1, -6, 134),
+            (1, -4, 90),
+        ],
+    ),
 ];
+
+fn see_sides(rt: &impl Abort, alloc: Global, shapes: &(Shape, Shape, Shape), rows: &[(i64, i64, i64)]) -> Result<(), Fail> {
+    let a = outline(alloc, shapes.0)?;
+    let b = outline(alloc, shapes.1)?;
+    let f = outline(alloc, shapes.2)?;
+    assert!(rt; a.len() >= 3);
+    assert!(rt; b.len() >= 3);
+    assert!(rt; f.len() >= 1);
+    let dirs = sides_of(alloc, a.as_slice(), b.as_slice(), f.as_slice())?;
+    assert!(rt; are_rows(dirs.as_slice(), rows, a.as_slice(), b.as_slice(), f.as_slice()));
+    Ok(())
+}
 
 #[test]
 fn sides_of_four_differences(rt: HostRuntime) -> Result<(), Fail> {
-    for (a, b, f, rows) in &ROWS {
-        let a = outline(rt.alloc(), a)?;
-        let b = outline(rt.alloc(), b)?;
-        let f = outline(rt.alloc(), f)?;
-        assert!(rt; a.len() >= 3 && b.len() >= 3 && f.len() >= 1);
-        let dirs = sides_of(rt.alloc(), a.as_slice(), b.as_slice(), f.as_slice())?;
-        assert!(rt; are_rows(dirs.as_slice(), rows, a.as_slice(), b.as_slice(), f.as_slice()));
+    for (shapes, rows) in &ROWS {
+        see_sides(&rt, rt.alloc(), shapes, rows)?;
+    }
+    Ok(())
+}
+
+// Three outlines, numerators and the denominator of a point, and whether it is inner to their difference.
+static POINTS: [((Shape, Shape, Shape), (i8, i8, u8), bool); 6] = [
+    ((Shape::Cube, Shape::Cube, Shape::Nozzle), (24, 0, 1), false),
+    ((Shape::Cube, Shape::Cube, Shape::Nozzle), (47, 0, 2), true),
+    ((Shape::Cube, Shape::Cube, Shape::Tip), (47, 0, 2), false),
+    ((Shape::Triangle, Shape::Cube, Shape::Bar), (-9, -9, 1), true),
+    ((Shape::Triangle, Shape::Cube, Shape::Bar), (0, 5, 1), true),
+    ((Shape::Triangle, Shape::Cube, Shape::Bar), (-20, 5, 1), false),
+];
+
+fn point(numbers: &(i8, i8, u8)) -> RatPoint
+    ensures { FitsProducts result }
+{
+    RatPoint {
+        x: i128::from(numbers.0),
+        y: i128::from(numbers.1),
+        d: i128::from(numbers.2.max(1)),
+    }
+}
+
+fn see_point(rt: &impl Abort, alloc: Global, shapes: &(Shape, Shape, Shape), at: &RatPoint, inner: bool) -> Result<(), Fail>
+    requires { FitsProducts at.now }
+{
+    let a = outline(alloc, shapes.0)?;
+    let b = outline(alloc, shapes.1)?;
+    let f = outline(alloc, shapes.2)?;
+    assert!(rt; a.len() >= 3);
+    assert!(rt; b.len() >= 3);
+    assert!(rt; f.len() >= 1);
+    assert_eq!(rt; strictly_in(a.as_slice(), b.as_slice(), f.as_slice(), at), inner);
+    Ok(())
+}
+
+#[test]
+fn points_of_three_differences(rt: HostRuntime) -> Result<(), Fail> {
+    for (shapes, numbers, inner) in &POINTS {
+        see_point(&rt, rt.alloc(), shapes, &point(numbers), *inner)?;
     }
     Ok(())
 }

@@ -32,8 +32,10 @@ fn contact_overlaps(job: &Job, contact: &Contact, earlier: &Place, later: &Place
 pub fn collides(job: &Job, contact: &Contact, earlier: &Place, later: &Place, scale: i128) -> bool
     requires contact { IsContact job.now contact.now }
     requires places { ArePlaces earlier.now later.now scale }
-    ensures collides { IsTrue result ↔ ContactCollides job.now contact.now (place_point scale earlier.now) (place_point scale later.now) }
-    ensures by_bands { IsTrue result ↔ ByBands job.now contact.now (place_point scale earlier.now) (place_point scale later.now) }
+    ensures collides { IsTrue result ↔ ContactCollides job.now contact.now
+        (place_point scale earlier.now) (place_point scale later.now) }
+    ensures by_bands { IsTrue result ↔ ByBands job.now contact.now
+        (place_point scale earlier.now) (place_point scale later.now) }
 {
     contact_overlaps(job, contact, earlier, later, scale)
 }
@@ -43,7 +45,8 @@ fn zones_hit(a: &Zone, b: &Zone, part: &Part, earlier: &Place, later: &Place, sc
     requires b { IsSoundZone b.now }
     requires part { IsSoundPart part.now }
     requires places { ArePlaces earlier.now later.now scale }
-    ensures { IsTrue result ↔ ZonesHit a.now part.now b.now (place_point scale earlier.now) (place_point scale later.now) }
+    ensures { IsTrue result ↔ ZonesHit a.now part.now b.now
+        (place_point scale earlier.now) (place_point scale later.now) }
 {
     zones_meet(part, b, a) && zones_overlap(a, b, part, earlier, later, scale)
 }
@@ -54,7 +57,8 @@ fn first_part(parts: &[Part], a: &Zone, b: &Zone, earlier: &Place, later: &Place
     requires a { IsSoundZone a.now }
     requires b { IsSoundZone b.now }
     requires places { ArePlaces earlier.now later.now scale }
-    ensures { IsFirst (PartHits parts.now a.now b.now (place_point scale earlier.now) (place_point scale later.now)) (λ a b. a < b) result }
+    ensures { IsFirst (PartHits parts.now a.now b.now
+        (place_point scale earlier.now) (place_point scale later.now)) (λ a b. a < b) result }
 {
     for k in 0..parts.len() {
         if zones_hit(a, b, &parts[k], earlier, later, scale) {
@@ -71,7 +75,8 @@ fn first_zone(parts: &[Part], zones: &[Zone], b: &Zone, earlier: &Place, later: 
     requires few_zones { length zones.now ≤ 200 }
     requires b { IsSoundZone b.now }
     requires places { ArePlaces earlier.now later.now scale }
-    ensures { IsFirst (ZoneHits parts.now zones.now b.now (place_point scale earlier.now) (place_point scale later.now)) (Sooner (λ a b. a < b)) result }
+    ensures { IsFirst (ZoneHits parts.now zones.now b.now
+        (place_point scale earlier.now) (place_point scale later.now)) (Sooner (λ a b. a < b)) result }
 {
     for z in 0..zones.len() {
         if let Some(part) = first_part(parts, &zones[z], b, earlier, later, scale) {
@@ -89,7 +94,8 @@ fn first_pair(parts: &[Part], zones: &[Zone], later_zones: &[Zone], earlier: &Pl
     requires later_zones { All IsSoundZone later_zones.now }
     requires few_later { length later_zones.now ≤ 200 }
     requires places { ArePlaces earlier.now later.now scale }
-    ensures { IsFirst (PairHits parts.now zones.now later_zones.now (place_point scale earlier.now) (place_point scale later.now)) (Sooner (Sooner (λ a b. a < b))) result }
+    ensures { IsFirst (PairHits parts.now zones.now later_zones.now
+        (place_point scale earlier.now) (place_point scale later.now)) (Sooner (Sooner (λ a b. a < b))) result }
 {
     for z in 0..later_zones.len() {
         if let Some(rest) = first_zone(parts, zones, &later_zones[z], earlier, later, scale) {
