@@ -38,14 +38,17 @@ fn pair_line(bytes: &[u8]) -> Option<(Pair, &[u8])>
     Some((Pair { row, times }, rest))
 }
 
-// The pairs up to the end of the line, 33 at most.
+// How many multipliers a bound line has at most.
+const MOST_PAIRS: usize = 33;
+
+// The pairs up to the end of the line, so many at most.
 fn all_pairs<'a>(found: &mut Vec<Pair>, bytes: &'a [u8]) -> Result<Option<&'a [u8]>, AllocError>
     requires { found.old.items ≡ [] }
     ensures { IfOk result (λ r. option_map (λ rest. (found.new.items, rest.now)) r ≡ pairs_at 33 bytes.now) }
 {
     let mut rest = bytes;
     while !ends_line(rest) {
-        if found.len() == 33 {
+        if found.len() == MOST_PAIRS {
             return Ok(None);
         }
         let Some((pair, after)) = pair_line(rest) else {

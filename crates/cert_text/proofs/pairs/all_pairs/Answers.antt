@@ -4,8 +4,8 @@ use Rattle.cert_text.specs.Laws.Pairs.{loop_more, loop_none, loop_full, loop_end
 use Rattle.text_lines.specs.Laws.Reading.{mapped_some}
 use Rattle.cert_text.proofs.pairs.all_pairs.Goals as goal
 
-pub returns-then-len-eq33 : goal.returns-then-len-eq33
-returns-then-len-eq33 c = loop_full _ c.loop-found.found.items c.loop-found.rest.now (omega arith) (sym c.ends_line.ensures ∙ c.loop-found-test.true) c.loop-found.invariant.answer
+pub returns-then-len-eq-MOST_PAIRS : goal.returns-then-len-eq-MOST_PAIRS
+returns-then-len-eq-MOST_PAIRS c = loop_full _ c.loop-found.found.items c.loop-found.rest.now (omega arith) (sym c.ends_line.ensures ∙ c.loop-found-test.true) c.loop-found.invariant.answer
 
 pub returns-in_default : goal.returns-in_default
 returns-in_default c = loop_none _ c.loop-found.found.items c.loop-found.rest.now (omega arith) (sym c.ends_line.ensures ∙ c.loop-found-test.true) (sym c.pair_line.ensures ∙ ap (option_map _) c.in_default.is) c.loop-found.invariant.answer
