@@ -162,10 +162,29 @@ fn large_files_are_read_or_too_long(rt: HostRuntime) -> Result<(), Fail> {
     see(&rt, rt.alloc(), &printer, &large, ARRANGE, (4, b"", line))
 }
 
+// Meshes at their limits: the most facets, and the fewest bytes that are too many.
+static LARGE: [(Mesh, u8, &[u8], &[u8]); 2] = [
+    (Mesh::Most, 0, PLAN, b""),
+    (
+        Mesh::Blank(67_108_865),
+        4,
+        b"",
+        b"input: a.stl: longer than 67108864 bytes\n",
+    ),
+];
+
+#[test]
+fn meshes_are_read_up_to_their_limits(rt: HostRuntime) -> Result<(), Fail> {
+    for (mesh, status, text, line) in &LARGE {
+        see(&rt, rt.alloc(), PLATE, mesh, ARRANGE, (*status, text, line))?;
+    }
+    Ok(())
+}
+
 const NO_MESH: &[&str] = &["arrange", "p0.toml"];
 
 // Words, calls of the shelf that fail, the status and the line on `err`.
-static RUNS: [(&[&str], &[u64], u8, &[u8]); 20] = [
+static RUNS: [(&[&str], &[u64], u8, &[u8]); 21] = [
     (&[], &[], 2, b"words: unknown command\n"),
     (
         &["arange", "p0.toml", "a.stl"],
@@ -224,6 +243,8 @@ static RUNS: [(&[&str], &[u64], u8, &[u8]); 20] = [
     (ARRANGE, &[0], 3, b"read: p0.toml\n"),
     (ARRANGE, &[2], 3, b"read: p0.toml\n"),
     (ARRANGE, &[3], 3, b"read: a.stl\n"),
+    // the read that finds the end of the mesh
+    (ARRANGE, &[5], 3, b"read: a.stl\n"),
 ];
 
 #[test]
@@ -249,7 +270,7 @@ fn words_and_failures_have_their_lines(rt: HostRuntime) -> Result<(), Fail> {
 }
 
 // A printer and words, the writes of `err` and of `out` that fail, and what each of the two took.
-static BROKEN: [(&[u8], &[&str], &[u64], &[u64], &[u8], &[u8]); 8] = [
+static BROKEN: [(&[u8], &[&str], &[u64], &[u64], &[u8], &[u8]); 9] = [
     (PLATE, NO_MESH, &[0], &[], b"", b""),
     (PLATE, NO_MESH, &[1], &[], b"words: usa", b""),
     (b"", ARRANGE, &[0], &[], b"", b""),
@@ -259,6 +280,14 @@ static BROKEN: [(&[u8], &[&str], &[u64], &[u64], &[u8], &[u8]); 8] = [
     (PLATE, ARRANGE, &[1], &[], b"note: a.st", b""),
     (PLATE, ARRANGE, &[], &[0], OPEN, b""),
     (PLATE, ARRANGE, &[], &[1], OPEN, b"seqplan 1\n"),
+    (
+        PLATE,
+        ARRANGE,
+        &[],
+        &[6],
+        OPEN,
+        b"seqplan 1\nstate found\ngrid 100\nextent 100\nscale 1\nplace 0 1 ",
+    ),
 ];
 
 #[test]

@@ -3,3 +3,4 @@ pub mod Outlines
 pub mod Keys
 pub mod Tables
 pub mod Printers
+pub mod Laws

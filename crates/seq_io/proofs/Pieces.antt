@@ -1,7 +1,8 @@
 -- Pieces of bytes, one after another.
-use Rattle.std.proofs.Common.{◌≡◌, ◌↔◌, ℕ, ◌+◌, List, ◌++◌, take, drop, Bool, true, false, IsTrue, Option, Some, None, Ok, Err, append_assoc, refl, sym, ap, ◌∙◌}
+use Rattle.std.proofs.Common.{◌≡◌, ◌↔◌, ℕ, ◌+◌, List, ◌++◌, take, drop, Bool, true, false, IsTrue, Option, Some, None, Ok, Err, append_assoc, refl, sym, ap, subst, ◌∙◌}
 use Rattle.std.proofs.Math.Seq.{take-add}
 use Rattle.std.specs.Io.KnownBytes.{Consumes}
+use Rattle.seq_io.specs.Counts.{Counted}
 use Rattle.seq_io.specs.Taken.{Grew}
 
 -- a sink that took one piece and then the next
@@ -24,3 +25,7 @@ consumes_more (Some a) (Some b) (Some c) was is i n p front q =
 pub not_broken : {T E : Type 0} (broken : Bool) (x : T) (e : E) → IsTrue broken ↔ (Ok x ≡ Err e) → broken ≡ false
 not_broken false x e h = refl
 not_broken true x e h = (let fault : Ok x ≡ Err e = h.0 refl in absurd cc)
+
+-- where no call failed the count is as it was
+pub counted_none : (fails : Bool) (first before now : ℕ) → fails ≡ false → Counted fails before now → before ≡ first → now ≡ first
+counted_none fails first before now none c same = (subst (λ b. Counted b before now) none c).count ∙ same

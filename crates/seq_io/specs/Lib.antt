@@ -1,5 +1,6 @@
 pub mod Counts
 pub mod Files
+pub mod Views
 pub mod Taken
 pub mod OpenFiles
 pub mod MemShelf

@@ -16,6 +16,7 @@ pub record ShelfState : Type 0 where
   pub files : List MemFile
   pub rest : List ℕ
   pub named : Option (List ℕ)
+  pub starts : ℕ
   pub broken : Bool
   pub faults : ℕ
   pub calls : ℕ
@@ -34,6 +35,7 @@ after_start s name =
     record s {
       rest = if fails then [] else bytes_of s.files name;
       named = Some name;
+      starts = raised true s.starts;
       broken = fails;
       faults = raised fails s.faults;
       calls = raised true s.calls;

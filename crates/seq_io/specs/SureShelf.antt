@@ -6,3 +6,4 @@ pub record SureState : Type 0 where
   pub files : List MemFile
   pub rest : List ℕ
   pub named : Option (List ℕ)
+  pub starts : ℕ

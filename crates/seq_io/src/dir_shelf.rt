@@ -1,6 +1,6 @@
-ghost use Rattle.std.specs.Prelude.{◌≡◌, string_bytes, is_err, None, Some, false, IfOk, OnErr, IsErr};
+ghost use Rattle.std.specs.Prelude.{◌≡◌, string_bytes, is_err, None, Some, true, false, IfOk, OnErr, IsErr};
 ghost use Rattle.std.specs.Io.{ReadsAtMost};
-ghost use Rattle.seq_io.specs.Counts.{raised, HasCause};
+ghost use Rattle.seq_io.specs.Counts.{raised, Counted};
 
 use crate::{Failed, Shelf};
 use owned_lists::Text;
@@ -14,6 +14,7 @@ pub struct DirShelf {
     rt: HostRuntime,
     file: Option<File>,
     named: Option<Text>,
+    starts: u64,
     broken: bool,
     faults: u64,
 }
@@ -23,17 +24,18 @@ impl Model for DirShelf {
 
     ghost Value = { DirState };
 
-    ghost view = { λ s. record { named = s.named; broken = s.broken; faults = s.faults } };
+    ghost view = { λ s. record { named = s.named; starts = s.starts; broken = s.broken; faults = s.faults } };
 }
 
 impl DirShelf {
     pub fn new(rt: HostRuntime) -> DirShelf
-        ensures { result ≡ record { named = None; broken = false; faults = 0 } }
+        ensures { result ≡ record { named = None; starts = 0; broken = false; faults = 0 } }
     {
         DirShelf {
             rt,
             file: None,
             named: None,
+            starts: 0,
             broken: false,
             faults: 0,
         }
@@ -47,7 +49,7 @@ impl DirShelf {
           broken = is_err result;
           faults = raised (is_err result) self.old.faults;
         } }
-        ensures cause { HasCause self.old.faults self.new.faults result }
+        ensures count { Counted (is_err result) self.old.faults self.new.faults }
     {
         self.broken = outcome.is_err();
         if self.broken {
@@ -58,28 +60,29 @@ impl DirShelf {
 }
 
 impl Shelf for DirShelf {
-    ghost files = { λ s. None };
-
-    ghost rest = { λ s. None };
-
-    ghost faults = { λ s. s.faults };
-
-    ghost named = { λ s. s.named };
-
-    ghost broken = { λ s. s.broken };
+    ghost shows = { λ s. record {
+      files = None;
+      rest = None;
+      named = s.named;
+      starts = s.starts;
+      broken = s.broken;
+      faults = s.faults;
+    } };
 
     ghost told = { λ s h. h };
 
     fn start(&mut self, name: String) -> Result<(), Failed>
         ensures state { self.new ≡ record {
           named = Some (string_bytes name);
+          starts = raised true self.old.starts;
           broken = is_err result;
           faults = raised (is_err result) self.old.faults;
         } }
-        ensures cause { HasCause self.old.faults self.new.faults result }
+        ensures count { Counted (is_err result) self.old.faults self.new.faults }
     {
         let opened = File::open(&self.rt, name.as_str());
         self.named = Some(Text::from_string(name));
+        self.starts = self.starts.saturating_add(1);
         self.file = None;
         self.file = Some(self.noted(opened)?);
         Ok(())
@@ -91,7 +94,7 @@ impl Shelf for DirShelf {
           broken = is_err result;
           faults = raised (is_err result) self.old.faults;
         } }
-        ensures cause { HasCause self.old.faults self.new.faults result }
+        ensures count { Counted (is_err result) self.old.faults self.new.faults }
     {
         let Some(file) = &mut self.file else {
             self.broken = false;

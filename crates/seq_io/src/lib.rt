@@ -2,9 +2,10 @@
 //!
 //! Everything that the program reads or writes passes through two traits, `Shelf` and `Sink`. Each has a version in
 //! memory, whose contents contracts can name, one that never fails, and one over the system's files and streams,
-//! of which nothing is told but how often a call failed. `read_all` gives the bytes of a file, or says why not;
-//! `write_all` writes all bytes, or a proper part of them. A failure is answered only where the device's count of
-//! faults rose in the call, so nothing above can make one up. (That each failure is answered is tested, not proved.)
+//! of which nothing is told but how many files were started and how many calls failed. `read_all` gives the bytes of a
+//! file, or says why not; `write_all` writes all bytes, or a proper part of them. Both end with the first call that
+//! fails: a device counts each failure, so nothing above can make one up, pass over one or try a call again.
+//! (That the system's devices answer each failure of the system is tested, not proved.)
 //!
 //! It stands above `seq_num` and below the top call, which takes its shelf and its sinks as type parameters.
 #![tactic(auto)]
@@ -42,17 +43,20 @@ mod tests {
     use std::test::Fail;
 
     // A name, a limit, the calls of the shelf that fail, and what is read of a file `a.stl`.
-    static READ: [(&str, usize, &[u64], Result<&[u8], ReadAll>); 4] = [
+    static READ: [(&str, usize, &[u64], Result<&[u8], ReadAll>); 5] = [
         ("a.stl", 5, &[], Ok(b"12345")),
         ("a.stl", 4, &[], Err(ReadAll::TooLong)),
         ("a.stl", 5, &[2], Err(ReadAll::ReadFault)),
+        // the read that finds the end
+        ("a.stl", 5, &[4], Err(ReadAll::ReadFault)),
         ("b.stl", 5, &[], Err(ReadAll::ReadFault)),
     ];
 
     // The writes that fail, the answer to ten bytes, and those that were taken.
-    static WRITTEN: [(&[u64], Result<(), SinkFault>, &[u8]); 2] = [
+    static WRITTEN: [(&[u64], Result<(), SinkFault>, &[u8]); 3] = [
         (&[], Ok(()), b"0123456789"),
         (&[1], Err(SinkFault), b"0123"),
+        (&[2], Err(SinkFault), b"01234567"),
     ];
 
     fn one_file(alloc: Global, bytes: &[u8]) -> Result<Vec<MemFile>, Fail> {
@@ -118,6 +122,18 @@ mod tests {
         let read = read_all(rt.alloc(), &mut shelf, name, 0);
         assert!(rt; bytes_of(&read) == Ok(b"".as_slice()));
         Ok(())
+    }
+
+    // A folder is opened, and then its first read fails.
+    #[test]
+    fn a_folder_has_no_bytes(rt: HostRuntime) -> Result<(), Fail> {
+        let name = String::from_str(rt.alloc(), ".")?;
+        let mut shelf = DirShelf::new(rt);
+        shelf.start(name)?;
+        match shelf.read(&mut [0; 8]) {
+            Ok(_) => Err(Fail::new("a folder was read")),
+            Err(Failed) => Ok(()),
+        }
     }
 
     // One byte past the limit is read, and no more.

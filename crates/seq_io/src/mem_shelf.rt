@@ -1,6 +1,6 @@
 ghost use Rattle.std.specs.Prelude.{◌≡◌, ◌≤◌, [], length, string_bytes, is_err, IfOk, None, Some, false, refl};
 ghost use Rattle.std.specs.Io.KnownBytes.{ReadConsumes};
-ghost use Rattle.seq_io.specs.Counts.{HasCause};
+ghost use Rattle.seq_io.specs.Counts.{Counted};
 ghost use Rattle.seq_io.specs.MemShelf.{start_fails, after_start, read_fails, read_len, after_read};
 
 use crate::open_files::OpenFiles;
@@ -16,6 +16,7 @@ use std::marker::Model;
 pub struct MemShelf {
     files: OpenFiles,
     named: Option<Text>,
+    starts: u64,
     broken: bool,
     faults: u64,
     calls: u64,
@@ -33,6 +34,7 @@ impl Model for MemShelf {
       files = s.files.files;
       rest = s.files.rest;
       named = s.named;
+      starts = s.starts;
       broken = s.broken;
       faults = s.faults;
       calls = s.calls;
@@ -51,6 +53,7 @@ impl MemShelf {
           files = files.items;
           rest = [];
           named = None;
+          starts = 0;
           broken = false;
           faults = 0;
           calls = 0;
@@ -61,6 +64,7 @@ impl MemShelf {
         MemShelf {
             files: OpenFiles::new(files),
             named: None,
+            starts: 0,
             broken: false,
             faults: 0,
             calls: 0,
@@ -71,27 +75,27 @@ impl MemShelf {
 }
 
 impl Shelf for MemShelf {
-    ghost files = { λ s. Some s.files };
-
-    ghost rest = { λ s. Some s.rest };
-
-    ghost faults = { λ s. s.faults };
-
-    ghost named = { λ s. s.named };
-
-    ghost broken = { λ s. s.broken };
+    ghost shows = { λ s. record {
+      files = Some s.files;
+      rest = Some s.rest;
+      named = s.named;
+      starts = s.starts;
+      broken = s.broken;
+      faults = s.faults;
+    } };
 
     ghost told = { λ s h. refl };
 
     fn start(&mut self, name: String) -> Result<(), Failed>
         ensures fails { is_err result ≡ start_fails self.old (string_bytes name) }
         ensures state { self.new ≡ after_start self.old (string_bytes name) }
-        ensures cause { HasCause self.old.faults self.new.faults result }
+        ensures count { Counted (is_err result) self.old.faults self.new.faults }
     {
         let due = self.failing.as_slice().contains(&self.calls);
         self.calls = self.calls.saturating_add(1);
         let found = self.files.open(name.as_str());
         self.named = Some(Text::from_string(name));
+        self.starts = self.starts.saturating_add(1);
         self.broken = due || !found;
         if self.broken {
             self.files.close();
@@ -103,10 +107,10 @@ impl Shelf for MemShelf {
 
     fn read(&mut self, buf: &mut [u8]) -> Result<usize, Failed>
         ensures fails { is_err result ≡ read_fails self.old }
-        ensures count { IfOk result (λ n. n ≡ read_len self.old (length buf.old)) }
+        ensures given { IfOk result (λ n. n ≡ read_len self.old (length buf.old)) }
         ensures bytes { ReadConsumes (Some self.old.rest) (Some self.new.rest) result buf.new }
         ensures state { self.new ≡ after_read self.old (length buf.old) }
-        ensures cause { HasCause self.old.faults self.new.faults result }
+        ensures count { Counted (is_err result) self.old.faults self.new.faults }
     {
         self.broken = self.failing.as_slice().contains(&self.calls);
         self.calls = self.calls.saturating_add(1);

@@ -1,5 +1,5 @@
 ghost use Rattle.std.specs.Prelude.{◌≡◌, ◌≤◌, ◌<◌, [], length, is_err, IfOk, Some};
-ghost use Rattle.seq_io.specs.Counts.{HasCause};
+ghost use Rattle.seq_io.specs.Counts.{Counted};
 ghost use Rattle.seq_io.specs.MemSink.{write_fails, write_len, after_write};
 
 use crate::{Failed, Sink};
@@ -76,16 +76,14 @@ impl MemSink {
 }
 
 impl Sink for MemSink {
-    ghost taken = { λ s. Some s.taken };
-
-    ghost faults = { λ s. s.faults };
+    ghost shows = { λ s. record { taken = Some s.taken; faults = s.faults } };
 
     fn write(&mut self, piece: &[u8]) -> Result<usize, Failed>
         ensures fails { is_err result ≡ write_fails self.old piece.now }
         ensures count { IfOk result (λ n. n ≡ write_len self.old piece.now) }
         ensures some { IfOk result (λ n. 0 < length piece.now → 0 < n) }
         ensures state { self.new ≡ after_write self.old piece.now }
-        ensures cause { HasCause self.old.faults self.new.faults result }
+        ensures faults { Counted (is_err result) self.old.faults self.new.faults }
     {
         if piece.is_empty() {
             return Ok(0);

@@ -1,7 +1,7 @@
 ghost use Rattle.std.specs.Prelude.{◌≡◌, ◌<◌, length, None, Some, is_err, IfOk};
 ghost use Rattle.std.specs.Result.{result_ok};
 ghost use Rattle.std.specs.Io.{WritesAtMost};
-ghost use Rattle.seq_io.specs.Counts.{raised, HasCause};
+ghost use Rattle.seq_io.specs.Counts.{raised, Counted};
 
 use crate::{Failed, Sink};
 use std::io::{self, Stderr, Stdout, Write};
@@ -52,7 +52,7 @@ impl StdSink {
         ensures ok { IfOk wrote (λ n. 0 < n → result ≡ Ok n) }
         ensures some { IfOk result (λ n. (0 < n) × (result_ok wrote ≡ Some n)) }
         ensures state { self.new ≡ raised (is_err result) self.old }
-        ensures cause { HasCause self.old self.new result }
+        ensures count { Counted (is_err result) self.old self.new }
     {
         match wrote {
             Ok(count) if count > 0 => Ok(count),
@@ -65,16 +65,14 @@ impl StdSink {
 }
 
 impl Sink for StdSink {
-    ghost taken = { λ s. None };
-
-    ghost faults = { λ s. s };
+    ghost shows = { λ s. record { taken = None; faults = s } };
 
     fn write(&mut self, piece: &[u8]) -> Result<usize, Failed>
         ensures most { WritesAtMost result piece.now }
         ensures some { IfOk result (λ n. 0 < length piece.now → 0 < n) }
         ensures none { length piece.now ≡ 0 → result ≡ Ok 0 }
         ensures state { self.new ≡ raised (is_err result) self.old }
-        ensures cause { HasCause self.old self.new result }
+        ensures count { Counted (is_err result) self.old self.new }
     {
         if piece.is_empty() {
             return Ok(0);

@@ -1,5 +1,6 @@
-ghost use Rattle.std.specs.Prelude.{◌≡◌, [], length, drop, min, string_bytes, IsOk, Some, None, false, refl};
+ghost use Rattle.std.specs.Prelude.{◌≡◌, [], length, drop, min, string_bytes, IsOk, Some, None, true, false, refl};
 ghost use Rattle.std.specs.Io.KnownBytes.{ReadConsumes};
+ghost use Rattle.seq_io.specs.Counts.{raised};
 ghost use Rattle.seq_io.specs.Files.{bytes_of};
 
 use crate::open_files::OpenFiles;
@@ -12,6 +13,7 @@ use std::marker::Model;
 pub struct SureShelf {
     files: OpenFiles,
     named: Option<Text>,
+    starts: u64,
 }
 
 impl Model for SureShelf {
@@ -19,30 +21,35 @@ impl Model for SureShelf {
 
     ghost Value = { SureState };
 
-    ghost view = { λ s. record { files = s.files.files; rest = s.files.rest; named = s.named } };
+    ghost view = { λ s. record {
+      files = s.files.files;
+      rest = s.files.rest;
+      named = s.named;
+      starts = s.starts;
+    } };
 }
 
 impl SureShelf {
     pub fn new(files: Vec<MemFile>) -> SureShelf
-        ensures { result ≡ record { files = files.items; rest = []; named = None } }
+        ensures { result ≡ record { files = files.items; rest = []; named = None; starts = 0 } }
     {
         SureShelf {
             files: OpenFiles::new(files),
             named: None,
+            starts: 0,
         }
     }
 }
 
 impl Shelf for SureShelf {
-    ghost files = { λ s. Some s.files };
-
-    ghost rest = { λ s. Some s.rest };
-
-    ghost faults = { λ s. 0 };
-
-    ghost named = { λ s. s.named };
-
-    ghost broken = { λ s. false };
+    ghost shows = { λ s. record {
+      files = Some s.files;
+      rest = Some s.rest;
+      named = s.named;
+      starts = s.starts;
+      broken = false;
+      faults = 0;
+    } };
 
     ghost told = { λ s h. refl };
 
@@ -52,10 +59,12 @@ impl Shelf for SureShelf {
           files = self.old.files;
           rest = bytes_of self.old.files (string_bytes name);
           named = Some (string_bytes name);
+          starts = raised true self.old.starts;
         } }
     {
         self.files.open(name.as_str());
         self.named = Some(Text::from_string(name));
+        self.starts = self.starts.saturating_add(1);
         Ok(())
     }
 

@@ -46,9 +46,7 @@ impl SureSink {
 }
 
 impl Sink for SureSink {
-    ghost taken = { λ s. if s.over then None else Some s.taken };
-
-    ghost faults = { λ s. 0 };
+    ghost shows = { λ s. record { taken = if s.over then None else Some s.taken; faults = 0 } };
 
     fn write(&mut self, piece: &[u8]) -> Result<usize, Failed>
         ensures sure { result ≡ Ok (length piece.now) }

@@ -1,5 +1,5 @@
 -- What the parts of a run give is an answer over its files.
-use Rattle.std.proofs.Common.{◌≡◌, ℕ, Bool, List, [], ◌∷◌, length, get_or, Option, Result, Ok, Err, IfOk, sym, ap, subst, arith}
+use Rattle.std.proofs.Common.{◌≡◌, ℕ, Bool, List, [], ◌∷◌, length, get_or, slice_get, Option, refl, sym, ap, subst, arith, append-nil}
 use Rattle.mesh_slices.specs.Objects.{CanBeSliced, IsObjectOf}
 use Rattle.seq_io.specs.declared.mem_file.MemFile.{MemFile}
 use Rattle.seq_model.specs.Scenes.{Description}
@@ -7,14 +7,15 @@ use Rattle.seq_model.specs.declared.job.Job.{Job}
 use Rattle.seq_model.specs.declared.job.Object.{Object}
 use Rattle.seq_model.specs.declared.mesh.Facet.{Facet}
 use Rattle.seq_model.specs.declared.printer.Printer.{Printer}
-use Rattle.seq_run.specs.Printed.{Answers, ArrangesJob, IsNoteFor, Prints, PrintsFor}
-use Rattle.seq_run.specs.Files.{IsMeshFile, IsPrinterFor, IsPrinterOf, PassesStrict}
+use Rattle.seq_run.specs.Files.{IsMeshFile, IsPrinterFor, IsPrinterOf, IsUsableMesh, PassesStrict, mesh_of, name_in, name_or}
+use Rattle.seq_run.specs.Printed.{Answers, ArrangesJob, AreNotesFor, IsNoteFor, IsObjectFor, PrintsFor}
 use Rattle.seq_run.specs.Words.{is_strict}
-use Rattle.seq_run.specs.declared.planning.Answer.{Answer}
-use Rattle.seq_run.specs.declared.stop.Stop.{Stop}
+use Rattle.seq_run.specs.declared.status.Verdict.{Verdict}
+use Rattle.seq_run.specs.declared.stop.NamedFile.TheVariants.{Mesh}
 use Rattle.seq_run.specs.declared.words.Asked.{Asked}
 use Rattle.seq_run.specs.declared.words.Task.{Task}
 use Rattle.seq_run.specs.declared.words.Task.TheVariants as Tasks
+use Rattle.std.specs.List.{AllZip}
 
 -- the only one of a list
 pub one_object : (objects slice : List Object) (object : Object) → slice ≡ objects → length objects ≡ 1 → object ≡ get_or slice 0 object → objects ≡ object ∷ []
@@ -26,37 +27,46 @@ one_object objects slice object same n e = by objects n (subst (λ xs. object �
     by (o ∷ p ∷ os) n e = absurd (omega (arith, n))
 
 -- the job that is made of a printer and an object is that of its description and its mesh
-pub arranges : (strict : Bool) (printer : Printer) (name : List ℕ) (facets : List Facet) (job : Job) (object : Object) (status : ℕ) (text : List ℕ) → job.printer ≡ printer → job.objects ≡ object ∷ [] → IsObjectOf name facets printer object
-    → ArrangesJob job status text → PrintsFor (Tasks.Arrange strict) printer name facets status text
-arranges strict printer name facets job object status text same one is a = record {
-  each = λ d fits. a.each strict d name facets (record {
-    printer = subst (IsPrinterFor d) (sym same) fits;
-    object = object;
-    one = one;
-    is = subst (λ p. IsObjectOf name facets p object) (sym same) is;
-  });
-}
+pub arranges : (strict : Bool) (printer : Printer) (name : List ℕ) (facets : List Facet) (dropped : ℕ) (job : Job) (object : Object) (verdict : Verdict) (text : List ℕ) → job.printer ≡ printer → job.objects ≡ object ∷ []
+    → IsObjectOf name facets printer object → ArrangesJob job verdict text → PrintsFor (Tasks.Arrange strict) printer (mesh_of name facets dropped ∷ []) verdict text
+arranges strict printer name facets dropped job object verdict text same one is a =
+    let m = mesh_of name facets dropped in
+    let there : IsObjectFor job.printer m object = subst (λ p. IsObjectOf name facets p object) (sym same) is in
+    record {
+      each = λ d fits. a.each strict d (m ∷ []) (record {
+        printer = subst (IsPrinterFor d) (sym same) fits;
+        objects = subst (AllZip (IsObjectFor job.printer) (m ∷ [])) (sym one) (there, tt);
+      });
+    }
 
-answered : (files : Option (List MemFile)) (a : Asked) (task : Task) (printer : Printer) (facets : List Facet) (dropped status : ℕ) (notes text : List ℕ) → a.task ≡ task → IsPrinterOf files a.printer printer → IsMeshFile files a.mesh facets dropped
-    → PrintsFor task printer a.mesh facets status text → IsNoteFor task a.mesh facets dropped notes → PassesStrict (is_strict task) facets → CanBeSliced facets printer.step → Answers files a status notes text
-answered files a task printer facets dropped status notes text same p m prints note passes slices = record {
-  description = p.description;
-  facets = facets;
-  dropped = dropped;
-  usable = record { printer = p.is; mesh = m; passes = subst (λ t. PassesStrict (is_strict t) facets) (sym same) passes; slices = subst (λ (d : Description). CanBeSliced facets d.step) p.fits.numbers slices };
-  prints = subst (λ t. Prints t p.description a.mesh facets status text) (sym same) (prints.each p.description p.fits);
-  note = subst (λ t. IsNoteFor t a.mesh facets dropped notes) (sym same) note;
-}
+-- the only one of the names is the first
+pub only_name : (names : List (List ℕ)) → length names ≡ 1 → names ≡ name_or (slice_get names 0) ∷ []
+only_name [] n = absurd (omega (arith, n))
+only_name (x ∷ []) n = refl
+only_name (x ∷ y ∷ xs) n = absurd (omega (arith, n))
 
-abbrev pub AnswersIn : Option (List MemFile) → Asked → Answer → Type 0
-AnswersIn files a x = Answers files a x.status x.notes x.text
+-- a note of one mesh is all its notes
+pub one_note : (task : Task) (name : List ℕ) (facets : List Facet) (dropped : ℕ) (notes : List ℕ) → IsNoteFor task name facets dropped notes → AreNotesFor task (mesh_of name facets dropped ∷ []) notes
+one_note (Tasks.Arrange strict) name facets dropped notes note = record { first = notes; rest = []; is = sym (append-nil notes); note = note; others = refl }
+one_note Tasks.Slices name facets dropped notes note = note
 
-pub arranged : (files : Option (List MemFile)) (a : Asked) (strict : Bool) (printer : Printer) (facets : List Facet) (dropped : ℕ) (r : Result Answer Stop) → a.task ≡ Tasks.Arrange strict → IsPrinterOf files a.printer printer → IsMeshFile files a.mesh facets dropped
-    → IfOk r (λ x. PrintsFor (Tasks.Arrange strict) printer a.mesh facets x.status x.text) → IfOk r (λ x. IsNoteFor (Tasks.Arrange strict) a.mesh facets dropped x.notes) → IfOk r (λ x. PassesStrict strict facets) → IfOk r (λ x. CanBeSliced facets printer.step) → IfOk r (AnswersIn files a)
-arranged files a strict printer facets dropped (Ok x) same p m prints note passes slices = answered files a (Tasks.Arrange strict) printer facets dropped x.status x.notes x.text same p m prints note passes slices
-arranged files a strict printer facets dropped (Err e) same p m prints note passes slices = tt
-
-pub sliced : (files : Option (List MemFile)) (a : Asked) (printer : Printer) (facets : List Facet) (dropped : ℕ) (r : Result Answer Stop) → a.task ≡ Tasks.Slices → IsPrinterOf files a.printer printer → IsMeshFile files a.mesh facets dropped
-    → IfOk r (λ x. PrintsFor Tasks.Slices printer a.mesh facets x.status x.text) → IfOk r (λ x. x.notes ≡ []) → IfOk r (λ x. CanBeSliced facets printer.step) → IfOk r (AnswersIn files a)
-sliced files a printer facets dropped (Ok x) same p m prints note slices = answered files a Tasks.Slices printer facets dropped x.status x.notes x.text same p m prints note (record { closed = λ e. absurd (cc e) }) slices
-sliced files a printer facets dropped (Err e) same p m prints note slices = tt
+pub answered : (files : Option (List MemFile)) (a : Asked) (printer : Printer) (facets : List Facet) (dropped : ℕ) (verdict : Verdict) (notes text : List ℕ) → length a.meshes ≡ 1
+    → IsPrinterOf files a.printer printer → IsMeshFile files (name_in a (Mesh 0)) facets dropped → PrintsFor a.task printer (mesh_of (name_in a (Mesh 0)) facets dropped ∷ []) verdict text
+    → IsNoteFor a.task (name_in a (Mesh 0)) facets dropped notes → PassesStrict (is_strict a.task) facets → CanBeSliced facets printer.step → Answers files a verdict notes text
+answered files a printer facets dropped verdict notes text one p is prints note passes slices =
+    let d = p.description in
+    let name = name_in a (Mesh 0) in
+    let m = mesh_of name facets dropped in
+    let usable : IsUsableMesh files (is_strict a.task) d.step name m = record {
+      named = refl;
+      is = is;
+      passes = passes;
+      slices = subst (λ (e : Description). CanBeSliced facets e.step) p.fits.numbers slices;
+    } in
+    record {
+      description = d;
+      meshes = m ∷ [];
+      usable = record { printer = p.is; each = subst (λ names. AllZip (IsUsableMesh files (is_strict a.task) d.step) names (m ∷ [])) (sym (only_name a.meshes one)) (usable, tt) };
+      prints = prints.each d p.fits;
+      note = one_note a.task name facets dropped notes note;
+    }

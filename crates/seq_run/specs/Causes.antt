@@ -1,4 +1,4 @@
--- Why a run stops at its files. The printer is looked at first, and the mesh only where the printer can be used.
+-- Why a run stops at its files. They are looked at in word order: the printer, and a mesh only where those before it can be used.
 --
 --   IsSomePrinter files name          the file of that name states some description
 --   IsNoPrinter files name e          its bytes are within the limit, and no description for this cause
@@ -6,14 +6,15 @@
 --   IsNoStl files name e              the bytes of the file are within the limit, and no mesh for this cause
 --   IsNotClosed strict facets e v     a strict run, and the mesh has e open edges and v for six times its volume
 --   IsUnfitFor task facets step c     the mesh can't be used for this cause
---   IsUnfitFile files a step c        the mesh's file is a mesh that can't be used for this cause
---   IsRefusedMesh files a d c         the mesh is refused for this cause, by a printer of this description
---   IsRefusedBy files a c             the mesh is refused for this cause, by a printer that can be used
+--   IsUnfitFile files name task step c   the file is a mesh that can't be used for this cause
+--   IsRefusedMesh files name task step c   the file is refused as a mesh for this cause
+--   AreUsableBefore files a k         the printer and the k meshes before the one of number k can be used
+--   IsRefusedBy files a k c           they can, and that mesh is refused for this cause
 --   Refuses files a file c            the first file in word order that can't be used is this one, for this cause
 --   Reaches files a file              those before this one can be used
---   Explains files a stop             what a stop says of the files
 --   IsUnlooked, IsUnsliced, IsUnfit   what a stop of looking at a mesh, of slicing it, and of all work on it says
-use Rattle.std.specs.Prelude.{◌≡◌, ℕ, ℤ, Bool, true, ◌≤◌, List, [], length, Option}
+use Rattle.std.specs.Prelude.{◌≡◌, ℕ, ℤ, Bool, true, ◌≤◌, ◌<◌, List, [], length, take, Option}
+use Rattle.std.specs.List.{AllZip}
 use Rattle.mesh_checks.specs.Edges.{open_edges}
 use Rattle.mesh_checks.specs.Verdicts.{IsClosedOutward}
 use Rattle.mesh_checks.specs.Volumes.{six_volume}
@@ -26,14 +27,14 @@ use Rattle.seq_model.specs.Scenes.{Description}
 use Rattle.seq_model.specs.declared.mesh.Facet.{Facet}
 use Rattle.stl_text.specs.Meshes.{IsRefused}
 use Rattle.stl_text.specs.declared.Stl.{Stl}
-use Rattle.seq_run.specs.Files.{limit_of, IsPrinterFile, IsMeshFile, PassesStrict}
+use Rattle.seq_run.specs.Files.{name_in, printer_limit, mesh_limit, IsPrinterFile, IsMeshFile, PassesStrict, NamedMesh, IsUsableMesh}
 use Rattle.seq_run.specs.Words.{is_strict}
 use Rattle.seq_run.specs.declared.stop.Cause.{Cause}
 use Rattle.seq_run.specs.declared.stop.Cause.TheVariants as Causes
 use Rattle.seq_run.specs.declared.stop.NamedFile.{NamedFile}
-use Rattle.seq_run.specs.declared.stop.NamedFile.TheVariants.{Printer, Mesh}
-use Rattle.seq_run.specs.declared.stop.Stop.{Stop}
-use Rattle.seq_run.specs.declared.stop.Stop.TheVariants.{Read, Input, Memory}
+use Rattle.seq_run.specs.declared.stop.NamedFile.TheVariants.{Printer, Plan, Mesh}
+use Rattle.seq_run.specs.declared.stop.Unfit.{Unfit}
+use Rattle.seq_run.specs.declared.stop.Unfit.TheVariants.{Because, NoMemory}
 use Rattle.seq_run.specs.declared.words.Asked.{Asked}
 use Rattle.seq_run.specs.declared.words.Task.{Task}
 
@@ -45,11 +46,11 @@ pub record IsSomePrinter (files : Option (List MemFile)) (name : List ℕ) : Typ
 pub record IsNoPrinter (files : Option (List MemFile)) (name : List ℕ) (e : Prn) : Type 0 where
   pub bytes : List ℕ
   pub gives : GivesFile files name bytes
-  pub short : length bytes ≤ limit_of Printer
+  pub short : length bytes ≤ printer_limit
   pub refused : IsRefusedPrinter bytes e
 
 abbrev pub IsRefusedFile : Option (List MemFile) → List ℕ → Cause → Type 0
-IsRefusedFile files name Causes.TooLong = LongerThan (limit_of Printer) files name
+IsRefusedFile files name Causes.TooLong = LongerThan (printer_limit) files name
 IsRefusedFile files name (Causes.Printer e) = IsNoPrinter files name e
 IsRefusedFile files name (Causes.Stl e) = ⊥
 IsRefusedFile files name (Causes.NotClosed edges volume) = ⊥
@@ -60,7 +61,7 @@ IsRefusedFile files name (Causes.TooTall bands) = ⊥
 pub record IsNoStl (files : Option (List MemFile)) (name : List ℕ) (e : Stl) : Type 0 where
   pub bytes : List ℕ
   pub gives : GivesFile files name bytes
-  pub short : length bytes ≤ limit_of Mesh
+  pub short : length bytes ≤ mesh_limit
   pub refused : IsRefused bytes e
 
 -- a strict run refuses the mesh, with the two numbers that its line tells
@@ -80,52 +81,55 @@ IsUnfitFor task facets step Causes.Flat = PassesStrict (is_strict task) facets �
 IsUnfitFor task facets step (Causes.TooTall bands) = PassesStrict (is_strict task) facets × IsTooTall facets step bands
 
 -- a mesh that can't be used
-pub record IsUnfitFile (files : Option (List MemFile)) (a : Asked) (step : ℤ) (c : Cause) : Type 0 where
+pub record IsUnfitFile (files : Option (List MemFile)) (name : List ℕ) (task : Task) (step : ℤ) (c : Cause) : Type 0 where
   pub facets : List Facet
   pub dropped : ℕ
-  pub is : IsMeshFile files a.mesh facets dropped
-  pub unfit : IsUnfitFor a.task facets step c
+  pub is : IsMeshFile files name facets dropped
+  pub unfit : IsUnfitFor task facets step c
 
-abbrev pub IsRefusedMesh : Option (List MemFile) → Asked → Description → Cause → Type 0
-IsRefusedMesh files a d Causes.TooLong = LongerThan (limit_of Mesh) files a.mesh
-IsRefusedMesh files a d (Causes.Printer e) = ⊥
-IsRefusedMesh files a d (Causes.Stl e) = IsNoStl files a.mesh e
-IsRefusedMesh files a d (Causes.NotClosed edges volume) = IsUnfitFile files a d.step (Causes.NotClosed edges volume)
-IsRefusedMesh files a d Causes.Flat = IsUnfitFile files a d.step Causes.Flat
-IsRefusedMesh files a d (Causes.TooTall bands) = IsUnfitFile files a d.step (Causes.TooTall bands)
+abbrev pub IsRefusedMesh : Option (List MemFile) → List ℕ → Task → ℤ → Cause → Type 0
+IsRefusedMesh files name task step Causes.TooLong = LongerThan mesh_limit files name
+IsRefusedMesh files name task step (Causes.Printer e) = ⊥
+IsRefusedMesh files name task step (Causes.Stl e) = IsNoStl files name e
+IsRefusedMesh files name task step (Causes.NotClosed edges volume) = IsUnfitFile files name task step (Causes.NotClosed edges volume)
+IsRefusedMesh files name task step Causes.Flat = IsUnfitFile files name task step Causes.Flat
+IsRefusedMesh files name task step (Causes.TooTall bands) = IsUnfitFile files name task step (Causes.TooTall bands)
 
--- the mesh is refused by a printer that can be used
-pub record IsRefusedBy (files : Option (List MemFile)) (a : Asked) (c : Cause) : Type 0 where
+-- a word names the mesh of number k, and what stands before it can be used
+pub record AreUsableBefore (files : Option (List MemFile)) (a : Asked) (k : ℕ) : Type 0 where
+  pub there : k < length a.meshes
   pub description : Description
   pub printer : IsPrinterFile files a.printer description
-  pub refused : IsRefusedMesh files a description c
+  pub meshes : List NamedMesh
+  pub each : AllZip (IsUsableMesh files (is_strict a.task) description.step) (take k a.meshes) meshes
 
+pub record IsRefusedBy (files : Option (List MemFile)) (a : Asked) (k : ℕ) (c : Cause) : Type 0 where
+  pub before : AreUsableBefore files a k
+  pub refused : IsRefusedMesh files (name_in a (Mesh k)) a.task before.description.step c
+
+-- no command that is built names a plan
 abbrev pub Refuses : Option (List MemFile) → Asked → NamedFile → Cause → Type 0
 Refuses files a Printer c = IsRefusedFile files a.printer c
-Refuses files a Mesh c = IsRefusedBy files a c
+Refuses files a Plan c = ⊥
+Refuses files a (Mesh k) c = IsRefusedBy files a k c
 
 abbrev pub Reaches : Option (List MemFile) → Asked → NamedFile → Type 0
 Reaches files a Printer = Unit {0}
-Reaches files a Mesh = IsSomePrinter files a.printer
-
-abbrev pub Explains : Option (List MemFile) → Asked → Stop → Type 0
-Explains files a (Read file) = Reaches files a file
-Explains files a (Input file c) = Refuses files a file c
-Explains files a Memory = Unit {0}
+Reaches files a Plan = ⊥
+Reaches files a (Mesh k) = AreUsableBefore files a k
 
 -- what a look at a mesh, its slicing, and all of its work stops for: a cause, or want of memory
-abbrev pub IsUnlooked : Bool → List Facet → Stop → Type 0
-IsUnlooked strict facets (Input Mesh (Causes.NotClosed edges volume)) = IsNotClosed strict facets edges volume
-IsUnlooked strict facets Memory = Unit {0}
-IsUnlooked strict facets stop = ⊥
+abbrev pub IsUnlooked : Bool → List Facet → Unfit → Type 0
+IsUnlooked strict facets (Because (Causes.NotClosed edges volume)) = IsNotClosed strict facets edges volume
+IsUnlooked strict facets (Because c) = ⊥
+IsUnlooked strict facets NoMemory = Unit {0}
 
-abbrev pub IsUnsliced : List Facet → ℤ → Stop → Type 0
-IsUnsliced facets step (Input Mesh Causes.Flat) = facets ≡ []
-IsUnsliced facets step (Input Mesh (Causes.TooTall bands)) = IsTooTall facets step bands
-IsUnsliced facets step Memory = Unit {0}
-IsUnsliced facets step stop = ⊥
+abbrev pub IsUnsliced : List Facet → ℤ → Unfit → Type 0
+IsUnsliced facets step (Because Causes.Flat) = facets ≡ []
+IsUnsliced facets step (Because (Causes.TooTall bands)) = IsTooTall facets step bands
+IsUnsliced facets step (Because c) = ⊥
+IsUnsliced facets step NoMemory = Unit {0}
 
-abbrev pub IsUnfit : Task → List Facet → ℤ → Stop → Type 0
-IsUnfit task facets step (Input Mesh c) = IsUnfitFor task facets step c
-IsUnfit task facets step Memory = Unit {0}
-IsUnfit task facets step stop = ⊥
+abbrev pub IsUnfit : Task → List Facet → ℤ → Unfit → Type 0
+IsUnfit task facets step (Because c) = IsUnfitFor task facets step c
+IsUnfit task facets step NoMemory = Unit {0}

@@ -1,14 +1,19 @@
--- What the two files hold that a run reads.
+-- What the files hold that a run reads, and when they can be used.
 --
---   name_in a file                    the word that names the file
+--   name_in a file                    the word that names the file, nothing where no word does
 --   limit_of file                     the most bytes that the file may have
 --   IsPrinterFile files name d        the file of that name states the description d, within its limit
 --   IsMeshFile files name fs dropped  the file of that name is a mesh of these facets, within its limit
 --   PassesStrict strict facets        where the run is strict, the mesh is closed and looks outward
 --   IsPrinterFor d printer            the printer has the numbers of the description, and its parts with the corners of their hulls
 --   IsPrinterOf files name printer    the file of that name states a description, and the printer is one for it
---   AreUsable files a d fs dropped    the files that the words name state this description and are this mesh, and it can be used
-use Rattle.std.specs.Prelude.{◌≡◌, ℕ, Bool, true, ◌≤◌, ◌^◌, ◌*◌, List, length, Option}
+--   IsUsableMesh files strict step name m   the file of that name is the mesh m, and it can be used
+--   AreUsable files a d meshes        the files that the words name state this description and are these meshes, in word order,
+--                                     and they can be used
+--   mesh_of name facets dropped       a mesh that was read, with its name
+--   facets_of meshes                  the facets of each
+use Rattle.std.specs.Prelude.{◌≡◌, ℕ, ℤ, Bool, true, ◌≤◌, ◌^◌, ◌*◌, List, [], length, map, slice_get, Option, Some, None}
+use Rattle.std.specs.List.{AllZip}
 use Rattle.mesh_checks.specs.Edges.{open_edges}
 use Rattle.mesh_checks.specs.Verdicts.{IsClosedOutward}
 use Rattle.mesh_checks.specs.Volumes.{six_volume}
@@ -22,27 +27,40 @@ use Rattle.seq_model.specs.declared.printer.Printer.{Printer}
 use Rattle.stl_text.specs.Meshes.{MeshOf}
 use Rattle.seq_run.specs.Words.{is_strict}
 use Rattle.seq_run.specs.declared.stop.NamedFile.{NamedFile}
+use Rattle.seq_run.specs.declared.stop.NamedFile.TheVariants as Named
 use Rattle.seq_run.specs.declared.words.Asked.{Asked}
 
-abbrev pub name_in : Asked → NamedFile → List ℕ
-name_in a NamedFile.Printer = a.printer
-name_in a NamedFile.Mesh = a.mesh
+abbrev pub name_or : Option (List ℕ) → List ℕ
+name_or None = []
+name_or (Some name) = name
 
--- 1 MiB for a description, 64 MiB for a mesh
+abbrev pub name_in : Asked → NamedFile → List ℕ
+name_in a Named.Printer = a.printer
+name_in a Named.Plan = name_or a.plan
+name_in a (Named.Mesh k) = name_or (slice_get a.meshes k)
+
+-- 1 MiB for a description, 256 MiB for a plan, 64 MiB for a mesh
+abbrev pub printer_limit : ℕ
+printer_limit = 2 ^ 20
+
+abbrev pub mesh_limit : ℕ
+mesh_limit = 64 * 2 ^ 20
+
 abbrev pub limit_of : NamedFile → ℕ
-limit_of NamedFile.Printer = 2 ^ 20
-limit_of NamedFile.Mesh = 64 * 2 ^ 20
+limit_of Named.Printer = printer_limit
+limit_of Named.Plan = 256 * 2 ^ 20
+limit_of (Named.Mesh k) = mesh_limit
 
 pub record IsPrinterFile (files : Option (List MemFile)) (name : List ℕ) (d : Description) : Type 0 where
   pub bytes : List ℕ
   pub gives : GivesFile files name bytes
-  pub short : length bytes ≤ limit_of NamedFile.Printer
+  pub short : length bytes ≤ printer_limit
   pub is : DescribedBy bytes d
 
 pub record IsMeshFile (files : Option (List MemFile)) (name : List ℕ) (facets : List Facet) (dropped : ℕ) : Type 0 where
   pub bytes : List ℕ
   pub gives : GivesFile files name bytes
-  pub short : length bytes ≤ limit_of NamedFile.Mesh
+  pub short : length bytes ≤ mesh_limit
   pub is : MeshOf bytes facets dropped
 
 pub record PassesStrict (strict : Bool) (facets : List Facet) : Type 0 where
@@ -57,8 +75,24 @@ pub record IsPrinterOf (files : Option (List MemFile)) (name : List ℕ) (printe
   pub is : IsPrinterFile files name description
   pub fits : IsPrinterFor description printer
 
-pub record AreUsable (files : Option (List MemFile)) (a : Asked) (d : Description) (facets : List Facet) (dropped : ℕ) : Type 0 where
+-- a mesh that was read, with the word that names it
+pub record NamedMesh : Type 0 where
+  pub name : List ℕ
+  pub facets : List Facet
+  pub dropped : ℕ
+
+abbrev pub mesh_of : List ℕ → List Facet → ℕ → NamedMesh
+mesh_of name facets dropped = record { name = name; facets = facets; dropped = dropped }
+
+abbrev pub facets_of : List NamedMesh → List (List Facet)
+facets_of meshes = map (λ m. m.facets) meshes
+
+pub record IsUsableMesh (files : Option (List MemFile)) (strict : Bool) (step : ℤ) (name : List ℕ) (m : NamedMesh) : Type 0 where
+  pub named : m.name ≡ name
+  pub is : IsMeshFile files name m.facets m.dropped
+  pub passes : PassesStrict strict m.facets
+  pub slices : CanBeSliced m.facets step
+
+pub record AreUsable (files : Option (List MemFile)) (a : Asked) (d : Description) (meshes : List NamedMesh) : Type 0 where
   pub printer : IsPrinterFile files a.printer d
-  pub mesh : IsMeshFile files a.mesh facets dropped
-  pub passes : PassesStrict (is_strict a.task) facets
-  pub slices : CanBeSliced facets d.step
+  pub each : AllZip (IsUsableMesh files (is_strict a.task) d.step) a.meshes meshes

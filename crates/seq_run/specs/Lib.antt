@@ -1,7 +1,10 @@
+pub mod Statuses
 pub mod Words
 pub mod Files
 pub mod Causes
-pub mod Texts
+pub mod Stops
+pub mod ArrangeText
+pub mod SlicesText
 pub mod Messages
 pub mod Printed
 pub mod Runs

@@ -1,11 +1,10 @@
--- The line that goes to `err`, and the status, of refused words and of each stop.
+-- The lines that go to `err`: of refused words, of each stop, and the notes of meshes.
 --
 --   words_line why       the line of refused words
 --   key_text fault key n a fault of this key in the top table (n = 0) or in listed part n - 1
 --   looks_text e v       open edges and six times the volume of a mesh
 --   IsNoteOf name e v d notes   the notes are the line of this mesh where one is due, and else nothing
 --   detail_of file c     the end of the line of a refused file
---   status_of stop       3 for a failed read, 4 for a refused file, 9 for want of memory
 --   line_of a stop       the line
 use Rattle.std.specs.Prelude.{◌≡◌, ℕ, zero, suc, ℤ, pos, List, [], ◌++◌, codes}
 use Rattle.decimal_lengths.specs.declared.Decimal.{Decimal}
@@ -24,7 +23,7 @@ use Rattle.seq_run.specs.Files.{name_in}
 use Rattle.seq_run.specs.declared.stop.Cause.{Cause}
 use Rattle.seq_run.specs.declared.stop.Cause.TheVariants as Causes
 use Rattle.seq_run.specs.declared.stop.NamedFile.{NamedFile}
-use Rattle.seq_run.specs.declared.stop.NamedFile.TheVariants.{Printer, Mesh}
+use Rattle.seq_run.specs.declared.stop.NamedFile.TheVariants.{Printer, Plan, Mesh}
 use Rattle.seq_run.specs.declared.stop.Stop.{Stop}
 use Rattle.seq_run.specs.declared.stop.Stop.TheVariants.{Read, Input, Memory}
 use Rattle.seq_run.specs.declared.words.Asked.{Asked}
@@ -100,7 +99,8 @@ pub record IsNoteOf (name : List ℕ) (edges : ℕ) (volume : ℤ) (dropped : �
 
 abbrev pub detail_of : NamedFile → Cause → List ℕ
 detail_of Printer Causes.TooLong = codes "longer than 1048576 bytes"
-detail_of Mesh Causes.TooLong = codes "longer than 67108864 bytes"
+detail_of Plan Causes.TooLong = codes "longer than 268435456 bytes"
+detail_of (Mesh k) Causes.TooLong = codes "longer than 67108864 bytes"
 detail_of file (Causes.Printer e) = prn_text e
 detail_of file (Causes.Stl e) = stl_text e
 detail_of file (Causes.NotClosed edges volume) = codes "not a closed outward mesh: " ++ looks_text edges volume
@@ -112,11 +112,6 @@ read_line name = codes "read: " ++ (name ++ codes "\n")
 
 abbrev pub input_line : List ℕ → NamedFile → Cause → List ℕ
 input_line name file cause = codes "input: " ++ (name ++ (codes ": " ++ (detail_of file cause ++ codes "\n")))
-
-abbrev pub status_of : Stop → ℕ
-status_of (Read file) = 3
-status_of (Input file cause) = 4
-status_of Memory = 9
 
 abbrev pub line_of : Asked → Stop → List ℕ
 line_of a (Read file) = read_line (name_in a file)

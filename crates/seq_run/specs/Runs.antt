@@ -1,29 +1,33 @@
--- What a run says of the words, the files and the two sinks, by its status. `e` and `e'` are what `err` took before and after
--- the run, `o` and `o'` what `out` took.
+-- What a run says of the words, the files and the two sinks, by its status. `s` and `s'` are what the shelf showed before and after
+-- the run, `e` and `e'` what `err` did, `o` and `o'` what `out` did.
 --
---   Asks words P                       the words are accepted, and what they ask for is so
---   IsMisworded words e e'             status 2: the words are refused, and `err` took their line
---   IsAnswered s files a e e' o o'     status 0 and 1: `err` took the notes, and `out` the whole text of an answer
---   IsUnread files a named e e'        status 3: reading failed at this file that the words name, and `err` took its line
---   IsRefusedInput files a e e'        status 4: the first file that can't be used is refused, and `err` took its line
---   IsUsable files a                   both files can be used
---   HasNoPlan files a                  they can, and no plan is valid for them
---   WordsBroke, ErrBroke, OutBroke     status 8: a sink failed within the line of refused words; within the line of a stop or
---                                      the notes of an answer; within its text
---   LineBroke, NotesBroke              the two cases of ErrBroke
-use Rattle.std.specs.Prelude.{◌≡◌, ◌⊎◌, ℕ, Bool, List, [], ◌∷◌, Option, Some, Ok, Err}
-use Rattle.seq_io.specs.Counts.{Rose}
-use Rattle.seq_io.specs.Taken.{Grew, TookPart}
+--   IsMisworded words s s' e e'          status 2: the words are refused, no file was started, and `err` took their line
+--   IsAnswered v a s s' e e' o o'        status 0 and 1: `err` took the notes, and `out` the whole text of an answer
+--   IsUnreadFile a s s' e e'             status 3: reading failed at this file that the words name, and `err` took its line
+--   IsWrongFile a s s' e e'              status 4: the first file that can't be used is refused, and `err` took its line
+--   IsUsable files a                     all files can be used
+--   HasNoPlan files a                    they can, and no plan is valid for them
+--   WordsBroke, ErrBroke, OutBroke       status 8: a sink failed within the line of refused words; within the line of a stop or
+--                                        the notes of an answer; within its text
+--   LineBroke, NotesBroke                the two cases of ErrBroke
+--   IsWanting words s s' e e'            status 9: memory was wanting, and `err` took its line
+--   IsUnwritten words s s' e e' o o'     status 8: the three cases; `out` is written after `err`
+--   Ends words s s' e e' o o' status     what each status says
+use Rattle.std.specs.Prelude.{◌≡◌, ◌⊎◌, ℕ, Bool, List, Option, Err}
+use Rattle.seq_io.specs.Taken.{BrokeIn, Wrote}
+use Rattle.seq_io.specs.Views.{ShelfView, SinkView}
 use Rattle.seq_io.specs.declared.mem_file.MemFile.{MemFile}
 use Rattle.seq_model.specs.Scenes.{Description, Valid, scene_of_files}
-use Rattle.seq_model.specs.declared.mesh.Facet.{Facet}
 use Rattle.seq_model.specs.declared.plan.Plan.{Plan}
 use Rattle.seq_words.specs.declared.command.Words.TheVariants.{NoMemory}
+use Rattle.seq_run.specs.Files.{AreUsable, NamedMesh, facets_of, name_in}
+use Rattle.seq_run.specs.Messages.{words_line, read_line, input_line, line_of, memory_line}
 use Rattle.seq_run.specs.Printed.{Answers}
-use Rattle.seq_run.specs.Causes.{Refuses, Reaches, Explains}
-use Rattle.seq_run.specs.Files.{AreUsable, name_in}
-use Rattle.seq_run.specs.Messages.{words_line, read_line, input_line, line_of}
-use Rattle.seq_run.specs.Words.{requested}
+use Rattle.seq_run.specs.Stops.{Explains, FailedAt, IsUntouched, ReadUpTo, RefusedAt, WantsMemory, last_of}
+use Rattle.seq_run.specs.Words.{Asks, requested}
+use Rattle.seq_run.specs.declared.status.Status.{Status}
+use Rattle.seq_run.specs.declared.status.Status.TheVariants as Statuses
+use Rattle.seq_run.specs.declared.status.Verdict.{Verdict}
 use Rattle.seq_run.specs.declared.stop.Cause.{Cause}
 use Rattle.seq_run.specs.declared.stop.NamedFile.{NamedFile}
 use Rattle.seq_run.specs.declared.stop.Stop.{Stop}
@@ -32,80 +36,111 @@ use Rattle.seq_run.specs.declared.words.Misworded.{Misworded}
 use Rattle.seq_run.specs.declared.words.Misworded.TheVariants.{Refused}
 use Rattle.seq_run.specs.declared.words.Task.TheVariants.{Arrange}
 
-pub record Asks (words : List (List ℕ)) (P : Asked → Type 0) : Type 0 where
-  pub asked : Asked
-  pub accepted : requested words ≡ Ok asked
-  pub so : P asked
-
-pub record IsMisworded (words : List (List ℕ)) (e e' : Option (List ℕ)) : Type 0 where
+pub record IsMisworded (words : List (List ℕ)) (s s' : ShelfView) (e e' : SinkView) : Type 0 where
   pub why : Misworded
   pub refused : requested words ≡ Err why
-  pub err : Grew e e' (words_line why)
+  pub shelf : IsUntouched s s'
+  pub err : Wrote (words_line why) e e'
 
-pub record IsAnswered (status : ℕ) (files : Option (List MemFile)) (a : Asked) (e e' o o' : Option (List ℕ)) : Type 0 where
+pub record IsAnswered (verdict : Verdict) (a : Asked) (s s' : ShelfView) (e e' o o' : SinkView) : Type 0 where
   pub notes : List ℕ
   pub text : List ℕ
-  pub answers : Answers files a status notes text
-  pub err : Grew e e' notes
-  pub out : Grew o o' text
+  pub answers : Answers s.files a verdict notes text
+  pub read : ReadUpTo a (last_of a) s s'
+  pub err : Wrote notes e e'
+  pub out : Wrote text o o'
 
-pub record IsUnread (files : Option (List MemFile)) (a : Asked) (named e e' : Option (List ℕ)) : Type 0 where
+pub record IsUnreadFile (a : Asked) (s s' : ShelfView) (e e' : SinkView) : Type 0 where
   pub file : NamedFile
-  pub is_named : named ≡ Some (name_in a file)
-  pub before : Reaches files a file
-  pub err : Grew e e' (read_line (name_in a file))
+  pub failed : FailedAt a file s s'
+  pub err : Wrote (read_line (name_in a file)) e e'
 
-pub record IsRefusedInput (files : Option (List MemFile)) (a : Asked) (e e' : Option (List ℕ)) : Type 0 where
+pub record IsWrongFile (a : Asked) (s s' : ShelfView) (e e' : SinkView) : Type 0 where
   pub file : NamedFile
   pub cause : Cause
-  pub refused : Refuses files a file cause
-  pub err : Grew e e' (input_line (name_in a file) file cause)
+  pub refused : RefusedAt a file cause s s'
+  pub err : Wrote (input_line (name_in a file) file cause) e e'
+
+pub record IsWanting (words : List (List ℕ)) (s s' : ShelfView) (e e' : SinkView) : Type 0 where
+  pub wanting : IsUntouched s s' ⊎ Asks words (λ a. WantsMemory a s s')
+  pub err : Wrote memory_line e e'
 
 pub record IsUsable (files : Option (List MemFile)) (a : Asked) : Type 0 where
   pub description : Description
-  pub facets : List Facet
-  pub dropped : ℕ
-  pub usable : AreUsable files a description facets dropped
+  pub meshes : List NamedMesh
+  pub usable : AreUsable files a description meshes
 
 -- the files can be used, and no plan is valid for them, on the whole plate or at a smaller extent
 pub record HasNoPlan (files : Option (List MemFile)) (a : Asked) : Type 0 where
   pub strict : Bool
   pub arranges : a.task ≡ Arrange strict
   pub description : Description
-  pub facets : List Facet
-  pub dropped : ℕ
-  pub usable : AreUsable files a description facets dropped
-  pub none : (e : ℕ) (plan : Plan) → Valid (scene_of_files description (facets ∷ [])) e plan → ⊥
+  pub meshes : List NamedMesh
+  pub usable : AreUsable files a description meshes
+  pub none : (e : ℕ) (plan : Plan) → Valid (scene_of_files description (facets_of meshes)) e plan → ⊥
 
-pub record WordsBroke (words : List (List ℕ)) (e e' : Option (List ℕ)) (before now : ℕ) : Type 0 where
+pub record WordsBroke (words : List (List ℕ)) (s s' : ShelfView) (e e' : SinkView) : Type 0 where
   pub why : Misworded
   pub refused : (why ≡ Refused NoMemory) ⊎ (requested words ≡ Err why)
-  pub part : TookPart e e' (words_line why)
-  pub rose : Rose before now
+  pub shelf : IsUntouched s s'
+  pub broke : BrokeIn (words_line why) e e'
 
 -- the line of a stop
-pub record LineBroke (files : Option (List MemFile)) (a : Asked) (e e' : Option (List ℕ)) : Type 0 where
+pub record LineBroke (a : Asked) (s s' : ShelfView) (e e' : SinkView) : Type 0 where
   pub stop : Stop
-  pub explains : Explains files a stop
-  pub part : TookPart e e' (line_of a stop)
+  pub explains : Explains a s s' stop
+  pub broke : BrokeIn (line_of a stop) e e'
 
 -- the notes of an answer
-pub record NotesBroke (files : Option (List MemFile)) (a : Asked) (e e' : Option (List ℕ)) : Type 0 where
-  pub status : ℕ
+pub record NotesBroke (a : Asked) (s s' : ShelfView) (e e' : SinkView) : Type 0 where
+  pub verdict : Verdict
   pub notes : List ℕ
   pub text : List ℕ
-  pub answers : Answers files a status notes text
-  pub part : TookPart e e' notes
+  pub answers : Answers s.files a verdict notes text
+  pub read : ReadUpTo a (last_of a) s s'
+  pub broke : BrokeIn notes e e'
 
-pub record ErrBroke (files : Option (List MemFile)) (a : Asked) (e e' : Option (List ℕ)) (before now : ℕ) : Type 0 where
-  pub within : LineBroke files a e e' ⊎ NotesBroke files a e e'
-  pub rose : Rose before now
+abbrev pub ErrBroke : Asked → ShelfView → ShelfView → SinkView → SinkView → Type 0
+ErrBroke a s s' e e' = LineBroke a s s' e e' ⊎ NotesBroke a s s' e e'
 
-pub record OutBroke (files : Option (List MemFile)) (a : Asked) (e e' o o' : Option (List ℕ)) (before now : ℕ) : Type 0 where
-  pub status : ℕ
+pub record OutBroke (a : Asked) (s s' : ShelfView) (e e' o o' : SinkView) : Type 0 where
+  pub verdict : Verdict
   pub notes : List ℕ
   pub text : List ℕ
-  pub answers : Answers files a status notes text
-  pub err : Grew e e' notes
-  pub part : TookPart o o' text
-  pub rose : Rose before now
+  pub answers : Answers s.files a verdict notes text
+  pub read : ReadUpTo a (last_of a) s s'
+  pub err : Wrote notes e e'
+  pub broke : BrokeIn text o o'
+
+-- each case but the last with `out` as it was
+abbrev pub IsUnwritten : List (List ℕ) → ShelfView → ShelfView → SinkView → SinkView → SinkView → SinkView → Type 0
+IsUnwritten words s s' e e' o o' =
+    (WordsBroke words s s' e e' × (o' ≡ o))
+    ⊎ (Asks words (λ a. ErrBroke a s s' e e') × (o' ≡ o))
+    ⊎ Asks words (λ a. OutBroke a s s' e e' o o')
+
+abbrev pub Ends : List (List ℕ) → ShelfView → ShelfView → SinkView → SinkView → SinkView → SinkView → Status → Type 0
+Ends words s s' e e' o o' (Statuses.Answered verdict) = Asks words (λ a. IsAnswered verdict a s s' e e' o o')
+Ends words s s' e e' o o' Statuses.WrongWords = IsMisworded words s s' e e' × (o' ≡ o)
+Ends words s s' e e' o o' Statuses.ReadFault = Asks words (λ a. IsUnreadFile a s s' e e') × (o' ≡ o)
+Ends words s s' e e' o o' Statuses.WrongFile = Asks words (λ a. IsWrongFile a s s' e e') × (o' ≡ o)
+Ends words s s' e e' o o' Statuses.WriteFault = IsUnwritten words s s' e e' o o'
+Ends words s s' e e' o o' Statuses.NoMemory = IsWanting words s s' e e' × (o' ≡ o)
+
+-- the same of what the words ask for
+abbrev pub AskedEnds : Asked → ShelfView → ShelfView → SinkView → SinkView → SinkView → SinkView → Status → Type 0
+AskedEnds a s s' e e' o o' (Statuses.Answered verdict) = IsAnswered verdict a s s' e e' o o'
+AskedEnds a s s' e e' o o' Statuses.WrongWords = ⊥
+AskedEnds a s s' e e' o o' Statuses.ReadFault = IsUnreadFile a s s' e e' × (o' ≡ o)
+AskedEnds a s s' e e' o o' Statuses.WrongFile = IsWrongFile a s s' e e' × (o' ≡ o)
+AskedEnds a s s' e e' o o' Statuses.WriteFault = (ErrBroke a s s' e e' × (o' ≡ o)) ⊎ OutBroke a s s' e e' o o'
+AskedEnds a s s' e e' o o' Statuses.NoMemory = (WantsMemory a s s' × Wrote memory_line e e') × (o' ≡ o)
+
+-- and of words that are refused
+abbrev pub RefusalEnds : Misworded → SinkView → SinkView → Status → Type 0
+RefusalEnds why e e' (Statuses.Answered verdict) = ⊥
+RefusalEnds why e e' Statuses.WrongWords = (why ≡ Refused NoMemory → ⊥) × Wrote (words_line why) e e'
+RefusalEnds why e e' Statuses.ReadFault = ⊥
+RefusalEnds why e e' Statuses.WrongFile = ⊥
+RefusalEnds why e e' Statuses.WriteFault = BrokeIn (words_line why) e e'
+RefusalEnds why e e' Statuses.NoMemory = (why ≡ Refused NoMemory) × Wrote memory_line e e'

@@ -1,28 +1,39 @@
-ghost use Rattle.std.specs.Prelude.{◌≡◌, ◌≤◌, Some, IfOk, IfErr, IsErrOf, IsTrue};
-ghost use Rattle.seq_io.specs.Counts.{Rose};
-ghost use Rattle.seq_run.specs.Causes.{Explains};
+ghost use Rattle.std.specs.Prelude.{◌≡◌, IfOk, IfErr, OnOk};
+ghost use Rattle.seq_io.specs.Views.{ShelfView};
 ghost use Rattle.seq_run.specs.Files.{IsMeshFile, IsPrinterOf, name_in};
+ghost use Rattle.seq_run.specs.Stops.{Explains, IsDue, NextRead, stop_of};
 ghost use Rattle.seq_run.specs.declared.stop.NamedFile.{NamedFile};
 
 use crate::reading::read_file;
 use crate::{Asked, Cause, NamedFile, Stop};
 use printer_text::{Prn, read_printer};
-use seq_io::Shelf;
+use seq_io::{ReadAll, Shelf};
 use seq_model::{Mesh, Printer};
 use std::alloc::Global;
 use stl_text::{Stl, read_mesh};
 
+// The stop at a file that wasn't read.
+fn stop_of(file: NamedFile, why: ReadAll) -> Stop
+    ensures { result ≡ stop_of file why }
+{
+    match why {
+        ReadAll::ReadFault => Stop::Read(file),
+        ReadAll::TooLong => Stop::Input(file, Cause::TooLong),
+        ReadAll::NoMemory => Stop::Memory,
+    }
+}
+
 /// The printer that the words name.
 pub fn load_printer<S: Shelf>(alloc: Global, asked: &Asked, shelf: &mut S) -> Result<Printer, Stop>
-    ensures is { IfOk result (IsPrinterOf (S.files shelf.old) asked.now.printer) }
-    ensures why { IfErr result (Explains (S.files shelf.old) asked.now) }
-    ensures fault { (file : NamedFile) → IsErrOf result (Stop.Read file) → Rose (S.faults shelf.old) (S.faults shelf.new) }
-    ensures broken { (file : NamedFile) → IsErrOf result (Stop.Read file) → IsTrue (S.broken shelf.new) }
-    ensures named { (file : NamedFile) → IsErrOf result (Stop.Read file) → S.named shelf.new ≡ Some (name_in asked.now file) }
-    ensures files { S.files shelf.new ≡ S.files shelf.old }
-    ensures later { S.faults shelf.old ≤ S.faults shelf.new }
+    ensures is { IfOk result (IsPrinterOf (S.shows shelf.old).files asked.now.printer) }
+    ensures read { OnOk result (NextRead asked.now.printer (S.shows shelf.old) (S.shows shelf.new)) }
+    ensures why { IfErr result (Explains asked.now (S.shows shelf.old) (S.shows shelf.new)) }
+    ensures files { (S.shows shelf.new).files ≡ (S.shows shelf.old).files }
 {
-    let bytes = read_file(alloc, shelf, &asked.printer, NamedFile::Printer)?;
+    let bytes = match read_file(alloc, asked, NamedFile::Printer, shelf) {
+        Ok(bytes) => bytes,
+        Err(why) => return Err(stop_of(NamedFile::Printer, why)),
+    };
     match read_printer(alloc, &bytes) {
         Ok(printer) => Ok(printer),
         Err(Prn::NoMemory) => Err(Stop::Memory),
@@ -30,24 +41,25 @@ pub fn load_printer<S: Shelf>(alloc: Global, asked: &Asked, shelf: &mut S) -> Re
     }
 }
 
-/// The mesh that the words name, for a printer that can be used.
+/// The mesh of this number, where it is the next file in word order. `s` is what the shelf showed before the first file.
 pub fn load_mesh<S: Shelf>(
     alloc: Global,
     asked: &Asked,
-    printer: &Printer,
+    number: usize,
     shelf: &mut S,
 ) -> Result<Mesh, Stop>
-    requires { IsPrinterOf (S.files shelf.old) asked.now.printer printer.now }
-    ensures is { IfOk result (λ mesh. IsMeshFile (S.files shelf.old) asked.now.mesh mesh.facets mesh.dropped) }
-    ensures why { IfErr result (Explains (S.files shelf.old) asked.now) }
-    ensures fault { (file : NamedFile) → IsErrOf result (Stop.Read file) → Rose (S.faults shelf.old) (S.faults shelf.new) }
-    ensures broken { (file : NamedFile) → IsErrOf result (Stop.Read file) → IsTrue (S.broken shelf.new) }
-    ensures named { (file : NamedFile) → IsErrOf result (Stop.Read file) → S.named shelf.new ≡ Some (name_in asked.now file) }
+    ensures is { IfOk result (λ mesh. IsMeshFile (S.shows shelf.old).files (name_in asked.now (NamedFile.Mesh number)) mesh.facets mesh.dropped) }
+    ensures read { OnOk result (NextRead (name_in asked.now (NamedFile.Mesh number)) (S.shows shelf.old) (S.shows shelf.new)) }
+    ensures why { (s : ShelfView) → IsDue asked.now (NamedFile.Mesh number) s (S.shows shelf.old)
+        → IfErr result (Explains asked.now s (S.shows shelf.new)) }
 {
-    let bytes = read_file(alloc, shelf, &asked.mesh, NamedFile::Mesh)?;
+    let bytes = match read_file(alloc, asked, NamedFile::Mesh(number), shelf) {
+        Ok(bytes) => bytes,
+        Err(why) => return Err(stop_of(NamedFile::Mesh(number), why)),
+    };
     match read_mesh(alloc, &bytes) {
         Ok(mesh) => Ok(mesh),
         Err(Stl::NoMemory) => Err(Stop::Memory),
-        Err(e) => Err(Stop::Input(NamedFile::Mesh, Cause::Stl(e))),
+        Err(e) => Err(Stop::Input(NamedFile::Mesh(number), Cause::Stl(e))),
     }
 }

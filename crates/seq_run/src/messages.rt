@@ -1,28 +1,16 @@
 ghost use Rattle.std.specs.Prelude.{◌≡◌, ◌++◌, pos, codes, IfOk, OnOk};
 ghost use Rattle.seq_num.specs.Spelling.{spelling};
-ghost use Rattle.seq_run.specs.Messages.{IsNoteOf, decimal_text, detail_of, dropped_text, input_line, key_text, line_of, looks_text, note_line, prn_text, read_line, status_of, stl_text, table_text, volume_text, words_line};
-ghost use Rattle.seq_run.specs.Files.{name_in};
+ghost use Rattle.seq_run.specs.Messages.{IsNoteOf, decimal_text, detail_of, dropped_text, input_line, key_text, looks_text, note_line, prn_text, stl_text, table_text, volume_text, words_line};
 
-use crate::texts::put_number;
-use crate::{Asked, Cause, Misworded, NamedFile, Stop};
+use crate::numbers::put_number;
+use crate::{Cause, Misworded, NamedFile};
 use decimal_lengths::Decimal;
 use mesh_checks::Notes;
-use owned_lists::{Items, Text};
+use owned_lists::Items;
 use printer_text::{Prn, key_text as spelled};
 use seq_words::{Opt, Words};
 use std::alloc::{AllocError, Global};
 use stl_text::{Stl, text_of};
-
-/// The status that a stop at the files ends with.
-pub fn status_of(stop: &Stop) -> u8
-    ensures { result ≡ status_of stop.now }
-{
-    match stop {
-        Stop::Read(_) => 3,
-        Stop::Input(_, _) => 4,
-        Stop::Memory => 9,
-    }
-}
 
 /// The line of refused words.
 pub fn words_line(why: Misworded) -> &'static [u8]
@@ -171,13 +159,13 @@ fn note_line(alloc: Global, name: &str, looks: &Notes) -> Result<Vec<u8>, AllocE
 }
 
 /// What is noted of a mesh; nothing where no note is due.
-pub fn note_of(alloc: Global, name: &Text, looks: &Notes) -> Result<Items<u8>, AllocError>
+pub fn note_of(alloc: Global, name: &str, looks: &Notes) -> Result<Items<u8>, AllocError>
     ensures { IfOk result (IsNoteOf name.now looks.now.open_edges looks.now.six_volume looks.now.dropped) }
 {
     if !looks.is_due() {
         return Ok(Items::new(alloc));
     }
-    Ok(Items::from_vec(note_line(alloc, name.as_str(), looks)?))
+    Ok(Items::from_vec(note_line(alloc, name, looks)?))
 }
 
 // The most bytes that a file may have, as its line says it.
@@ -186,7 +174,8 @@ fn too_long(file: NamedFile) -> &'static [u8]
 {
     match file {
         NamedFile::Printer => b"longer than 1048576 bytes",
-        NamedFile::Mesh => b"longer than 67108864 bytes",
+        NamedFile::Plan => b"longer than 268435456 bytes",
+        NamedFile::Mesh(_) => b"longer than 67108864 bytes",
     }
 }
 
@@ -207,25 +196,8 @@ fn put_detail(to: &mut Vec<u8>, file: NamedFile, cause: &Cause) -> Result<(), Al
     }
 }
 
-fn name_in(asked: &Asked, file: NamedFile) -> &Text
-    ensures { result.now ≡ name_in asked.now file }
-{
-    match file {
-        NamedFile::Printer => &asked.printer,
-        NamedFile::Mesh => &asked.mesh,
-    }
-}
-
-fn read_line(alloc: Global, name: &str) -> Result<Vec<u8>, AllocError>
-    ensures { IfOk result (λ line. line.items ≡ read_line name.now) }
-{
-    let mut line = Vec::from_slice(alloc, b"read: ")?;
-    line.extend_from_slice(name.as_bytes())?;
-    line.extend_from_slice(b"\n")?;
-    Ok(line)
-}
-
-fn input_line(
+/// The line of a refused file.
+pub fn input_line(
     alloc: Global,
     name: &str,
     file: NamedFile,
@@ -239,17 +211,4 @@ fn input_line(
     put_detail(&mut line, file, cause)?;
     line.extend_from_slice(b"\n")?;
     Ok(line)
-}
-
-/// The line of a stop at the files.
-pub fn line_of(alloc: Global, asked: &Asked, stop: &Stop) -> Result<Vec<u8>, AllocError>
-    ensures { IfOk result (λ line. line.items ≡ line_of asked.now stop.now) }
-{
-    match stop {
-        Stop::Read(file) => read_line(alloc, name_in(asked, *file).as_str()),
-        Stop::Input(file, cause) => {
-            input_line(alloc, name_in(asked, *file).as_str(), *file, cause)
-        }
-        Stop::Memory => Vec::from_slice(alloc, b"memory\n"),
-    }
 }

@@ -1,47 +1,39 @@
-ghost use Rattle.std.specs.Prelude.{◌≡◌, ◌≤◌, ◌⊎◌, Some, length, IfOk, IfErr, IsErrOf, IsTrue};
-ghost use Rattle.seq_io.specs.Counts.{Rose};
-ghost use Rattle.seq_io.specs.Files.{GivesFile, LongerThan};
-ghost use Rattle.seq_run.specs.Files.{limit_of};
+ghost use Rattle.std.specs.Prelude.{◌≡◌, ◌≤◌, length, IfOk, IfErr, OnOk};
+ghost use Rattle.seq_io.specs.Files.{GivesFile};
+ghost use Rattle.seq_run.specs.Files.{limit_of, name_in};
+ghost use Rattle.seq_run.specs.Stops.{IsUnread, NextRead};
 
-use crate::{Cause, NamedFile, Stop};
-use owned_lists::Text;
+use crate::words::name_in;
+use crate::{Asked, NamedFile};
 use seq_io::{ReadAll, Shelf, read_all};
 use std::alloc::Global;
 
-// The most bytes that a file may have: 1 MiB for a description, 64 MiB for a mesh.
+// The most bytes that a file may have: 1 MiB for a description, 256 MiB for a plan, 64 MiB for a mesh.
 fn limit_of(file: NamedFile) -> usize
     ensures { result ≡ limit_of file }
 {
     match file {
         NamedFile::Printer => 1 << 20,
-        NamedFile::Mesh => 64 << 20,
+        NamedFile::Plan => 256 << 20,
+        NamedFile::Mesh(_) => 64 << 20,
     }
 }
 
-/// The bytes of a file that the words name.
+/// The bytes of a file that the words name. No other file is started, and nothing is tried again.
 pub fn read_file<S: Shelf>(
     alloc: Global,
-    shelf: &mut S,
-    name: &Text,
+    asked: &Asked,
     file: NamedFile,
-) -> Result<Vec<u8>, Stop>
-    ensures bytes { IfOk result (λ v. GivesFile (S.files shelf.old) name.now v.items) }
+    shelf: &mut S,
+) -> Result<Vec<u8>, ReadAll>
+    ensures bytes { IfOk result (λ v. GivesFile (S.shows shelf.old).files (name_in asked.now file) v.items) }
     ensures short { IfOk result (λ v. length v.items ≤ limit_of file) }
-    ensures why { IfErr result (λ stop. (stop ≡ Stop.Memory) ⊎ (stop ≡ Stop.Read file) ⊎ (stop ≡ Stop.Input file Cause.TooLong)) }
-    ensures long { IsErrOf result (Stop.Input file Cause.TooLong) → LongerThan (limit_of file) (S.files shelf.old) name.now }
-    ensures fault { IsErrOf result (Stop.Read file) → Rose (S.faults shelf.old) (S.faults shelf.new) }
-    ensures broken { IsErrOf result (Stop.Read file) → IsTrue (S.broken shelf.new) }
-    ensures named { IsErrOf result (Stop.Read file) → S.named shelf.new ≡ Some name.now }
-    ensures files { S.files shelf.new ≡ S.files shelf.old }
-    ensures later { S.faults shelf.old ≤ S.faults shelf.new }
+    ensures read { OnOk result (NextRead (name_in asked.now file) (S.shows shelf.old) (S.shows shelf.new)) }
+    ensures why { IfErr result (IsUnread (limit_of file) (name_in asked.now file) (S.shows shelf.old) (S.shows shelf.new)) }
+    ensures files { (S.shows shelf.new).files ≡ (S.shows shelf.old).files }
 {
-    let Ok(own_name) = String::from_str(alloc, name.as_str()) else {
-        return Err(Stop::Memory);
+    let Ok(own_name) = String::from_str(alloc, name_in(asked, file)) else {
+        return Err(ReadAll::NoMemory);
     };
-    match read_all(alloc, shelf, own_name, limit_of(file)) {
-        Ok(bytes) => Ok(bytes),
-        Err(ReadAll::ReadFault) => Err(Stop::Read(file)),
-        Err(ReadAll::TooLong) => Err(Stop::Input(file, Cause::TooLong)),
-        Err(ReadAll::NoMemory) => Err(Stop::Memory),
-    }
+    read_all(alloc, shelf, own_name, limit_of(file))
 }

@@ -1,11 +1,15 @@
+ghost use Rattle.std.specs.Prelude.{◌≡◌};
+
 use printer_text::Prn;
+use std::alloc::AllocError;
 use stl_text::Stl;
 
-/// A file that the words name.
+/// A file that the words name. Meshes are numbered from 0 in word order.
 #[derive(Clone, Copy, PartialEq, Eq, Debug)]
 pub enum NamedFile {
     Printer,
-    Mesh,
+    Plan,
+    Mesh(usize),
 }
 
 /// Why a file is refused for its bytes.
@@ -29,4 +33,31 @@ pub enum Stop {
     Read(NamedFile),
     Input(NamedFile, Cause),
     Memory,
+}
+
+/// Why a mesh that was read gives no answer.
+#[derive(Debug, Drop)]
+pub enum Unfit {
+    Because(Cause),
+    NoMemory,
+}
+
+impl From<AllocError> for Unfit {
+    ghost use Rattle.seq_run.specs.declared.stop.Unfit.TheVariants.{NoMemory};
+
+    ghost from_gives = { λ _ e. e ≡ NoMemory };
+
+    fn from(_: AllocError) -> Self {
+        Unfit::NoMemory
+    }
+}
+
+impl From<seq_num::NoMemory> for Unfit {
+    ghost use Rattle.seq_run.specs.declared.stop.Unfit.TheVariants.{NoMemory};
+
+    ghost from_gives = { λ _ e. e ≡ NoMemory };
+
+    fn from(_: seq_num::NoMemory) -> Self {
+        Unfit::NoMemory
+    }
 }

@@ -1,4 +1,4 @@
-use Rattle.lone_object.proofs.Overhanging.{no_plan, first_negative, tree_refutes}
+use Rattle.lone_object.specs.Laws.Overhanging.{no_plan, first_negative, tree_refutes}
 use Rattle.lone_object.proofs.placing.overhang_is_refuted.Goals as goal
 
 pub returns-clause-none : goal.returns-clause-none

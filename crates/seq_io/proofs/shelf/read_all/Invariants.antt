@@ -1,18 +1,20 @@
-use Rattle.std.proofs.Common.{◌≡◌, ◌≤◌, ◌-◌, false, Some, string_bytes, take, vec_len}
+use Rattle.std.proofs.Common.{◌≡◌, ◌≤◌, ◌-◌, true, false, Some, string_bytes, take, vec_len}
 use Rattle.std.specs.Io.KnownBytes.{Consumes}
+use Rattle.seq_io.specs.Counts.{raised}
 use Rattle.seq_io.proofs.shelf.read_all.Given as goal
 
 abbrev pub invariant-loop-bytes : goal.invariant-loop-bytes
 invariant-loop-bytes g l =
     let s = g.S.Shelf in
     record {
-      files : s.files l.shelf ≡ s.files l.fn.shelf;
-      read : Consumes (s.rest l.initial.shelf) (s.rest l.shelf) (take l.filled l.bytes.items);
+      files : (s.shows l.shelf).files ≡ (s.shows l.fn.shelf).files;
+      read : Consumes (s.shows l.initial.shelf).rest (s.shows l.shelf).rest (take l.filled l.bytes.items);
       filled : l.filled ≤ vec_len l.bytes;
       within : l.filled ≤ l.limit;
-      later : s.faults l.fn.shelf ≤ s.faults l.shelf;
-      whole : s.broken l.shelf ≡ false;
-      named : s.named l.shelf ≡ Some (string_bytes l.fn.name);
+      faults : (s.shows l.shelf).faults ≡ (s.shows l.fn.shelf).faults;
+      whole : (s.shows l.shelf).broken ≡ false;
+      named : (s.shows l.shelf).named ≡ Some (string_bytes l.fn.name);
+      starts : (s.shows l.shelf).starts ≡ raised true (s.shows l.fn.shelf).starts;
     }
 
 abbrev pub decreases-loop-bytes : goal.decreases-loop-bytes

@@ -12,13 +12,12 @@ returns-in_ok-found_text-in-Ok-clause-prints c =
     let text : List ℕ = c.from_vec-text.result in
     let place = c.in-Ok.place in
     let e = c.in-Ok.ensures in
-    found_for c.lone_place_is_valid.ensures job object place text one e.fits e.place (search rules) (is_place object.low place e.place e.small.0 e.small.1)
+    found_for job object place text one e.fits e.place (search rules) (is_place object.low place e.place e.small.0 e.small.1)
 
 pub returns-in_ok-none_text-in-Err-clause-prints : goal.returns-in_ok-none_text-in-Err-clause-prints
 returns-in_ok-none_text-in-Err-clause-prints c =
     let job = c.args.job.now in
-    let law = c.overhang_is_refuted.ensures in
     let object : Object = c.index-as_slice-0.result in
     let one : job.objects ≡ object ∷ [] = one_object job.objects c.as_slice.result.now object c.as_slice.ensures c.requires c.index-as_slice-0.is in
     let text : List ℕ = c.from_vec-text-in-Err.result in
-    none_for law.none law.first law.tree job object c.in-Err.row text one c.in-Err.ensures.over (search rules)
+    none_for job object c.in-Err.row text one c.in-Err.ensures.over (search rules)

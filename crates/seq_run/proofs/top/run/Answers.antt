@@ -1,26 +1,39 @@
-use Rattle.std.proofs.Common.{◌≡◌, List, Option, Ok, rules, inl, inr}
-use Rattle.seq_io.specs.declared.mem_file.MemFile.{MemFile}
+use Rattle.std.proofs.Common.{◌≡◌, ℕ, ◌∷◌, [], sym, subst}
+use Rattle.seq_io.specs.Views.{ShelfView, SinkView}
 use Rattle.seq_words.specs.Usages.{texts}
-use Rattle.seq_run.specs.Words.{requested}
-use Rattle.seq_run.proofs.Exact.{not_found, not_refused}
+use Rattle.seq_run.specs.Statuses.{IsOneOf}
+use Rattle.seq_run.proofs.Ended.{E, at_number, calm, ends_once, err_calm, input_always, input_only, none_always, out_calm, silent, status_at, words_always}
 use Rattle.seq_run.proofs.top.run.Goals as goal
 
-pub returns-in-Err-clause-input_always : goal.returns-in-Err-clause-input_always
-returns-in-Err-clause-input_always g c = λ _. elim c.refuse.ensures.statuses [ inl h ↦ inl h | inr (inl h) ↦ inr (inr (inr (inl h))) | inr (inr h) ↦ inr (inr (inr (inr h))) ]
-
-pub returns-in-Ok-clause-none_always : goal.returns-in-Ok-clause-none_always
-returns-in-Ok-clause-none_always g c = λ told is asks.
-    (let files : Option (List MemFile) = g.S.Shelf.files c.args.shelf.now in
-    let asked = c.in-Ok.asked in
-    let accepted : requested (texts c.args.words.now.items) ≡ Ok asked = search rules in
-    let found_law = c.a_found_plan_is_one.ensures in
-    let refused_law = c.refused_files_are_unusable.ensures in
-    let e = c.answer.ensures in
-    elim e.statuses [
-      | inl zero ↦ (let x = e.found zero in absurd (not_found found_law files told _ asked asks.asked x.notes x.text is accepted asks.accepted x.answers asks.so))
-      | inr (inl one) ↦ inl one
-      | inr (inr (inl three)) ↦ inr (inl three)
-      | inr (inr (inr (inl four))) ↦ (let x = e.input four in absurd (not_refused refused_law files told _ asked asks.asked x.file x.cause is accepted asks.accepted x.refused asks.so))
-      | inr (inr (inr (inr (inl eight)))) ↦ inr (inr (inl eight))
-      | inr (inr (inr (inr (inr nine)))) ↦ inr (inr (inr nine))
-    ])
+pub returns : goal.returns
+returns g c =
+    let words = texts c.args.words.now.items in
+    let s : ShelfView = g.S.Shelf.shows c.args.shelf.now in
+    let s' : ShelfView = g.S.Shelf.shows c.end.new.shelf in
+    let e : SinkView = g.E.Sink.shows c.args.err.now in
+    let e' : SinkView = g.E.Sink.shows c.end.new.err in
+    let o : SinkView = g.O.Sink.shows c.args.out.now in
+    let o' : SinkView = g.O.Sink.shows c.end.new.out in
+    let status = c.end.result in
+    let n = c.code_of.result in
+    let code = c.code_of.ensures in
+    let ends = c.end.ensures in
+    let by : (m : ℕ) → n ≡ m → E words s s' e e' o o' (status_at m) = λ m is. at_number (E words s s' e e' o o') status n m code is ends in
+    record {
+      statuses = subst (IsOneOf (0 ∷ 1 ∷ 2 ∷ 3 ∷ 4 ∷ 8 ∷ 9 ∷ [])) (sym code) (ends_once status);
+      found = λ is. by 0 is;
+      none = λ is. by 1 is;
+      none_always = λ files told asks. subst (IsOneOf (1 ∷ 3 ∷ 8 ∷ 9 ∷ [])) (sym code) (none_always words s s' e e' o o' status ends files told asks);
+      words = λ is. (by 2 is).0;
+      words_always = λ h. subst (IsOneOf (2 ∷ 8 ∷ 9 ∷ [])) (sym code) (words_always words s s' e e' o o' status ends h);
+      read = λ is. (by 3 is).0;
+      input = λ is. (by 4 is).0;
+      input_always = λ h. subst (IsOneOf (2 ∷ 3 ∷ 4 ∷ 8 ∷ 9 ∷ [])) (sym code) (input_always words s s' e e' o o' status ends h);
+      input_only = λ files told is asks. input_only words s s' e e' o o' files told (by 4 is) asks;
+      write = λ is. by 8 is;
+      err_calm = err_calm words s s' e e' o o' n by;
+      out_calm = out_calm words s s' e e' o o' n by;
+      memory = λ is. (by 9 is).0;
+      silent = silent words s s' e e' o o' n by;
+      calm = calm words s s' e e' o o' n by;
+    }

@@ -1,13 +1,13 @@
 ghost use Rattle.std.specs.Prelude.{◌≡◌, ◌++◌, IfOk, OnOk};
-ghost use Rattle.seq_run.specs.Texts.{bands_line, corner_line, corners_text, height_line, slices_text, zone_line, zones_text};
+ghost use Rattle.seq_run.specs.SlicesText.{bands_line, corner_line, corners_text, height_line, slices_text, zone_line, zones_text};
 
-use crate::texts::put_number;
+use crate::numbers::put_number;
 use decimal_lengths::write_um;
 use seq_model::{Object, Spot, Zone};
 use std::alloc::{AllocError, Global};
 
 // Appends the line of a height in µm, told in mm.
-#[tactic(auto, unfolding(crate::specs::Texts::height_line))]
+#[tactic(auto, unfolding(crate::specs::SlicesText::height_line))]
 fn put_height(to: &mut Vec<u8>, height: i64) -> Result<(), AllocError>
     ensures { OnOk result (to.new.items ≡ to.old.items ++ height_line height) }
 {
@@ -19,7 +19,7 @@ fn put_height(to: &mut Vec<u8>, height: i64) -> Result<(), AllocError>
 }
 
 // Appends the line of the number of bands.
-#[tactic(auto, unfolding(crate::specs::Texts::bands_line))]
+#[tactic(auto, unfolding(crate::specs::SlicesText::bands_line))]
 fn put_bands(to: &mut Vec<u8>, bands: u32) -> Result<(), AllocError>
     ensures { OnOk result (to.new.items ≡ to.old.items ++ bands_line bands) }
 {

@@ -1,24 +1,14 @@
 ghost use Rattle.std.specs.Prelude.{◌≡◌, ◌≤◌, ◌++◌, pos, codes, IfOk, OnOk};
 ghost use Rattle.lone_object.specs.Lone.{lone_plan};
 ghost use Rattle.plan_text.specs.PlanText.{IsPlace, number_line, plan_text};
-ghost use Rattle.seq_num.specs.Spelling.{spelling};
-ghost use Rattle.seq_run.specs.Texts.{bound_line, found, none_text};
+ghost use Rattle.seq_run.specs.ArrangeText.{bound_line, found, none_text};
 
-use itoa::Buffer;
+use crate::numbers::put_number;
 use owned_lists::Items;
 use plan_text::{PlanFile, State, write_plan};
 use seq_model::{Place, Plan};
 use seq_num::NoMemory;
 use std::alloc::{AllocError, Global};
-
-/// Appends a text and a number.
-pub fn put_number(to: &mut Vec<u8>, text: &[u8], n: i128) -> Result<(), AllocError>
-    ensures { OnOk result (to.new.items ≡ to.old.items ++ (text.now ++ spelling n)) }
-{
-    let mut digits = Buffer::new();
-    to.extend_from_slice(text)?;
-    to.extend_from_slice(digits.format(n).as_bytes())
-}
 
 // The plan of one place, at scale 1.
 fn alone(alloc: Global, place: Place) -> Result<Plan, NoMemory>

@@ -1,32 +1,16 @@
--- The texts that are printed on `out`.
+-- The text that `slices` prints on `out`.
 --
---   found grid plan        the file of a plan that was found, on the whole plate
---   without_plan grid      the file that says that there is no plan on the whole plate
---   bound_line row         the line of the node that takes this row once
---   none_text grid row     the text that says so: the plan's lines, and the certificate of that one node
---   slices_text o          the height of an object, the number of its bands, and its zones with their corners
+--   height_line h, bands_line n   the height of an object in mm, and the number of its bands
+--   corner_line s, corners_text S one corner to a line
+--   zone_line z                   the first and the last band of a zone, and the number of its corners
+--   slices_text o                 all of it: the height, the number of bands, and the zones with their corners
 use Rattle.std.specs.Prelude.{ℕ, ℤ, pos, List, [], ◌∷◌, ◌++◌, length, codes}
 use Rattle.decimal_lengths.specs.Spelling.{millimetres}
-use Rattle.plan_text.specs.PlanText.{plan_text, number_line}
-use Rattle.plan_text.specs.declared.file.PlanFile.{PlanFile}
-use Rattle.plan_text.specs.declared.file.State.TheVariants.{Found, NoPlan}
+use Rattle.plan_text.specs.PlanText.{number_line}
 use Rattle.seq_model.specs.declared.job.Object.{Object}
 use Rattle.seq_model.specs.declared.job.Zone.{Zone}
-use Rattle.seq_model.specs.declared.plan.Plan.{Plan}
 use Rattle.seq_model.specs.declared.printer.Spot.{Spot}
 use Rattle.seq_num.specs.Spelling.{spelling}
-
-abbrev pub found : ℕ → Plan → PlanFile
-found grid plan = record { state = Found; grid = grid; extent = grid; plan = plan }
-
-abbrev pub without_plan : ℕ → PlanFile
-without_plan grid = record { state = NoPlan; grid = grid; extent = 0; plan = record { scale = pos 1; places = [] } }
-
-abbrev pub bound_line : ℕ → List ℕ
-bound_line row = codes "bound " ++ (spelling (pos row) ++ codes ":1\n")
-
-abbrev pub none_text : ℕ → ℕ → List ℕ
-none_text grid row = plan_text (without_plan grid) ++ (codes "certificate 1\n" ++ (number_line (codes "excludes ") (pos grid) ++ bound_line row))
 
 unfoldable pub height_line : ℤ → List ℕ
 height_line height = codes "height " ++ (millimetres height ++ codes "\n")

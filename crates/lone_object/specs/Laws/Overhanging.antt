@@ -19,7 +19,7 @@ use Rattle.seq_model.specs.declared.row.Row.{Row}
 use Rattle.seq_model.specs.Systems.{bounds_of, system, row_at, IsTaken, Contradiction, sum_coefficients}
 use Rattle.seq_model.specs.Trees.{Refutes}
 use Rattle.lone_object.specs.Lone.{Overhangs, IsFirstNegative, span_tree}
-use Rattle.lone_object.proofs.Alone.{whole_share, whole_plate, whole_region}
+use Rattle.lone_object.specs.Laws.Alone.{whole_share, whole_plate, whole_region}
 
 -- a place of the object, and what holds of all places
 record Placed (P : Place → Type 0) (o : ℕ) : Type 0 where

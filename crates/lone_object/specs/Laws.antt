@@ -1,0 +1,3 @@
+-- Lemmas over the definitions, for proofs to cite: nothing here has to be believed.
+pub mod Alone
+pub mod Overhanging

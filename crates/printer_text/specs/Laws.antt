@@ -1,0 +1,2 @@
+-- Lemmas over the definitions, for proofs to cite: nothing here has to be believed.
+pub mod Descriptions

@@ -1,0 +1,151 @@
+-- What a run says by its number, from what it says by its status.
+use Rattle.std.proofs.Common.{◌≡◌, ◌⊎◌, ℕ, zero, suc, List, [], ◌∷◌, Option, Some, Result, Ok, Err, IsErr, inl, inr, refl, sym, ap, ◌∙◌, subst}
+use Rattle.seq_io.specs.Taken.{Wrote}
+use Rattle.seq_io.specs.Views.{ShelfView, SinkView}
+use Rattle.seq_io.specs.declared.mem_file.MemFile.{MemFile}
+use Rattle.seq_run.specs.Causes.{Refuses}
+use Rattle.seq_run.specs.Messages.{line_of}
+use Rattle.seq_run.specs.Printed.{Answers}
+use Rattle.seq_run.specs.Runs.{AskedEnds, Ends, HasNoPlan, IsUsable}
+use Rattle.seq_run.specs.Statuses.{IsOneOf, code_of, status_of}
+use Rattle.seq_run.specs.Stops.{Explains, IsUntouched, WantsMemory}
+use Rattle.seq_run.specs.Words.{Asks, requested}
+use Rattle.seq_run.specs.declared.status.Status.{Status}
+use Rattle.seq_run.specs.declared.status.Status.TheVariants.{Answered, WrongWords, ReadFault, WrongFile, WriteFault, NoMemory}
+use Rattle.seq_run.specs.declared.status.Verdict.TheVariants.{Done, NoPlan}
+use Rattle.seq_run.specs.declared.stop.Stop.{Stop}
+use Rattle.seq_run.specs.declared.stop.Stop.TheVariants.{Read, Input, Memory}
+use Rattle.seq_run.specs.declared.words.Asked.{Asked}
+use Rattle.seq_run.specs.declared.words.Misworded.{Misworded}
+use Rattle.seq_run.proofs.Exact.{found_plan-one, refused_files-unusable}
+
+-- the status of a number
+abbrev pub status_at : ℕ → Status
+status_at zero = Answered Done
+status_at (suc zero) = Answered NoPlan
+status_at (suc (suc zero)) = WrongWords
+status_at (suc (suc (suc zero))) = ReadFault
+status_at (suc (suc (suc (suc zero)))) = WrongFile
+status_at (suc (suc (suc (suc (suc (suc (suc (suc zero)))))))) = WriteFault
+status_at n = NoMemory
+
+status_at-code : (s : Status) → status_at (code_of s) ≡ s
+status_at-code (Answered Done) = refl
+status_at-code (Answered NoPlan) = refl
+status_at-code WrongWords = refl
+status_at-code ReadFault = refl
+status_at-code WrongFile = refl
+status_at-code WriteFault = refl
+status_at-code NoMemory = refl
+
+-- what holds of the status holds of that of its number
+pub at_number : (P : Status → Type 0) (s : Status) (r n : ℕ) → r ≡ code_of s → r ≡ n → P s → P (status_at n)
+at_number P s r n code is h = subst P (sym (ap status_at (sym is ∙ code) ∙ status_at-code s)) h
+
+-- the numbers that a run may end with
+pub ends_once : (s : Status) → IsOneOf (0 ∷ 1 ∷ 2 ∷ 3 ∷ 4 ∷ 8 ∷ 9 ∷ []) (code_of s)
+ends_once (Answered Done) = inl refl
+ends_once (Answered NoPlan) = inr (inl refl)
+ends_once WrongWords = inr (inr (inl refl))
+ends_once ReadFault = inr (inr (inr (inl refl)))
+ends_once WrongFile = inr (inr (inr (inr (inl refl))))
+ends_once WriteFault = inr (inr (inr (inr (inr (inl refl)))))
+ends_once NoMemory = inr (inr (inr (inr (inr (inr refl)))))
+
+-- what the words ask for is one thing
+asked-one : (r : Result Asked Misworded) (a b : Asked) → r ≡ Ok a → r ≡ Ok b → b ≡ a
+asked-one r a b e f = (let same : Ok b ≡ Ok a = sym f ∙ e in cc)
+
+refused-asked : (r : Result Asked Misworded) (a : Asked) → IsErr r → r ≡ Ok a → ⊥
+refused-asked (Ok b) a h e = absurd (cc h)
+refused-asked (Err why) a h e = absurd (cc e)
+
+usable : (files : Option (List MemFile)) (a : Asked) → HasNoPlan files a → IsUsable files a
+usable files a n = record { description = n.description; meshes = n.meshes; usable = n.usable }
+
+module _ (words : List (List ℕ)) (s s' : ShelfView) (e e' o o' : SinkView) where
+  abbrev pub E : Status → Type 0
+  E status = Ends words s s' e e' o o' status
+
+  pub words_always : (status : Status) → E status → IsErr (requested words) → IsOneOf (2 ∷ 8 ∷ 9 ∷ []) (code_of status)
+  words_always (Answered Done) x h = absurd (refused-asked (requested words) x.asked h x.accepted)
+  words_always (Answered NoPlan) x h = absurd (refused-asked (requested words) x.asked h x.accepted)
+  words_always WrongWords x h = inl refl
+  words_always ReadFault x h = absurd (refused-asked (requested words) x.0.asked h x.0.accepted)
+  words_always WrongFile x h = absurd (refused-asked (requested words) x.0.asked h x.0.accepted)
+  words_always WriteFault x h = inr (inl refl)
+  words_always NoMemory x h = inr (inr refl)
+
+  pub none_always : (status : Status) → E status → (files : List MemFile) → s.files ≡ Some files → Asks words (HasNoPlan (Some files)) → IsOneOf (1 ∷ 3 ∷ 8 ∷ 9 ∷ []) (code_of status)
+  none_always (Answered Done) x files told n =
+      let same = asked-one (requested words) x.asked n.asked x.accepted n.accepted in
+      let there = subst (λ fs. Answers fs x.asked Done x.so.notes x.so.text) told x.so.answers in
+      absurd (found_plan-one files x.asked x.so.notes x.so.text there (subst (HasNoPlan (Some files)) same n.so))
+  none_always (Answered NoPlan) x files told n = inl refl
+  none_always WrongWords x files told n = absurd (accepted-refused (requested words) n.asked x.0.why n.accepted x.0.refused)
+    where
+      accepted-refused : (r : Result Asked Misworded) (a : Asked) (why : Misworded) → r ≡ Ok a → r ≡ Err why → ⊥
+      accepted-refused r a why p q = (let same : Ok a ≡ Err why = sym p ∙ q in absurd cc)
+  none_always ReadFault x files told n = inr (inl refl)
+  none_always WrongFile x files told n =
+      let same = asked-one (requested words) x.0.asked n.asked x.0.accepted n.accepted in
+      let there = subst (λ fs. Refuses fs x.0.asked x.0.so.file x.0.so.cause) told x.0.so.refused.refused in
+      absurd (refused_files-unusable files x.0.asked x.0.so.file x.0.so.cause there (usable (Some files) x.0.asked (subst (HasNoPlan (Some files)) same n.so)))
+  none_always WriteFault x files told n = inr (inr (inl refl))
+  none_always NoMemory x files told n = inr (inr (inr refl))
+
+  pub input_always : (status : Status) → E status → (Asks words (IsUsable s.files) → ⊥) → IsOneOf (2 ∷ 3 ∷ 4 ∷ 8 ∷ 9 ∷ []) (code_of status)
+  input_always (Answered Done) x h = absurd (h (record { asked = x.asked; accepted = x.accepted; so = record { description = x.so.answers.description; meshes = x.so.answers.meshes; usable = x.so.answers.usable } }))
+  input_always (Answered NoPlan) x h = absurd (h (record { asked = x.asked; accepted = x.accepted; so = record { description = x.so.answers.description; meshes = x.so.answers.meshes; usable = x.so.answers.usable } }))
+  input_always WrongWords x h = inl refl
+  input_always ReadFault x h = inr (inl refl)
+  input_always WrongFile x h = inr (inr (inl refl))
+  input_always WriteFault x h = inr (inr (inr (inl refl)))
+  input_always NoMemory x h = inr (inr (inr (inr refl)))
+
+  pub input_only : (files : List MemFile) → s.files ≡ Some files → E WrongFile → Asks words (IsUsable (Some files)) → ⊥
+  input_only files told x u =
+      let same = asked-one (requested words) x.0.asked u.asked x.0.accepted u.accepted in
+      let there = subst (λ fs. Refuses fs x.0.asked x.0.so.file x.0.so.cause) told x.0.so.refused.refused in
+      refused_files-unusable files x.0.asked x.0.so.file x.0.so.cause there (subst (IsUsable (Some files)) same u.so)
+
+  -- by the number: the counts of the sinks, and `out`, and the count of the shelf are as before
+  pub err_calm : (n : ℕ) → ((m : ℕ) → n ≡ m → E (status_at m)) → IsOneOf (0 ∷ 1 ∷ 2 ∷ 3 ∷ 4 ∷ 9 ∷ []) n → e'.faults ≡ e.faults
+  err_calm n x (inl h) = (x 0 h).so.err.calm
+  err_calm n x (inr (inl h)) = (x 1 h).so.err.calm
+  err_calm n x (inr (inr (inl h))) = (x 2 h).0.err.calm
+  err_calm n x (inr (inr (inr (inl h)))) = (x 3 h).0.so.err.calm
+  err_calm n x (inr (inr (inr (inr (inl h))))) = (x 4 h).0.so.err.calm
+  err_calm n x (inr (inr (inr (inr (inr h))))) = (x 9 h).0.err.calm
+
+  pub silent : (n : ℕ) → ((m : ℕ) → n ≡ m → E (status_at m)) → IsOneOf (2 ∷ 3 ∷ 4 ∷ 9 ∷ []) n → o' ≡ o
+  silent n x (inl h) = (x 2 h).1
+  silent n x (inr (inl h)) = (x 3 h).1
+  silent n x (inr (inr (inl h))) = (x 4 h).1
+  silent n x (inr (inr (inr h))) = (x 9 h).1
+
+  pub out_calm : (n : ℕ) → ((m : ℕ) → n ≡ m → E (status_at m)) → IsOneOf (0 ∷ 1 ∷ 2 ∷ 3 ∷ 4 ∷ 9 ∷ []) n → o'.faults ≡ o.faults
+  out_calm n x (inl h) = (x 0 h).so.out.calm
+  out_calm n x (inr (inl h)) = (x 1 h).so.out.calm
+  out_calm n x (inr (inr h)) = ap (λ (v : SinkView). v.faults) (silent n x h)
+
+  pub calm : (n : ℕ) → ((m : ℕ) → n ≡ m → E (status_at m)) → IsOneOf (0 ∷ 1 ∷ 2 ∷ 4 ∷ 9 ∷ []) n → s'.faults ≡ s.faults
+  calm n x (inl h) = (x 0 h).so.read.calm
+  calm n x (inr (inl h)) = (x 1 h).so.read.calm
+  calm n x (inr (inr (inl h))) = (x 2 h).0.shelf.calm
+  calm n x (inr (inr (inr (inl h)))) = (x 4 h).0.so.refused.read.calm
+  calm n x (inr (inr (inr (inr h)))) = wanting (x 9 h).0.wanting
+    where
+      wanting : IsUntouched s s' ⊎ Asks words (λ a. WantsMemory a s s') → s'.faults ≡ s.faults
+      wanting (inl u) = u.calm
+      wanting (inr a) = wants a.asked a.so
+        where
+          wants : (a : Asked) → WantsMemory a s s' → s'.faults ≡ s.faults
+          wants a (inl u) = u.calm
+          wants a (inr r) = r.read.calm
+
+-- what was told of a stop
+pub stop_ends : (a : Asked) (s s' : ShelfView) (e e' o : SinkView) (told : Stop) → Explains a s s' told → Wrote (line_of a told) e e' → AskedEnds a s s' e e' o o (status_of told)
+stop_ends a s s' e e' o (Read file) why line = (record { file = file; failed = why; err = line }, refl)
+stop_ends a s s' e e' o (Input file c) why line = (record { file = file; cause = c; refused = why; err = line }, refl)
+stop_ends a s s' e e' o Memory why line = ((why, line), refl)

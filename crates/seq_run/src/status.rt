@@ -1,0 +1,58 @@
+ghost use Rattle.std.specs.Prelude.{◌≡◌};
+ghost use Rattle.seq_run.specs.Statuses.{code_of, code_of_verdict, status_of};
+
+use crate::Stop;
+
+/// What is said of the files' job where all of them can be used.
+#[derive(Clone, Copy, PartialEq, Eq, Debug)]
+pub enum Verdict {
+    /// A plan was found, or the outlines are printed.
+    Done,
+    /// There is no plan.
+    NoPlan,
+}
+
+/// How a run ends.
+#[derive(Clone, Copy, PartialEq, Eq, Debug)]
+pub enum Status {
+    Answered(Verdict),
+    WrongWords,
+    ReadFault,
+    WrongFile,
+    WriteFault,
+    NoMemory,
+}
+
+fn code_of_verdict(verdict: Verdict) -> u8
+    ensures { result ≡ code_of_verdict verdict }
+{
+    match verdict {
+        Verdict::Done => 0,
+        Verdict::NoPlan => 1,
+    }
+}
+
+/// The exit status. The numbers stand here and in the clauses of `run` alone.
+pub fn code_of(status: Status) -> u8
+    ensures { result ≡ code_of status }
+{
+    match status {
+        Status::Answered(verdict) => code_of_verdict(verdict),
+        Status::WrongWords => 2,
+        Status::ReadFault => 3,
+        Status::WrongFile => 4,
+        Status::WriteFault => 8,
+        Status::NoMemory => 9,
+    }
+}
+
+/// How a run ends that stops at its files.
+pub fn status_of(stop: &Stop) -> Status
+    ensures { result ≡ status_of stop.now }
+{
+    match stop {
+        Stop::Read(_) => Status::ReadFault,
+        Stop::Input(_, _) => Status::WrongFile,
+        Stop::Memory => Status::NoMemory,
+    }
+}
