@@ -5,3 +5,4 @@ pub mod Directions
 pub mod Edges
 pub mod Hulls
 pub mod Laws
+pub mod Outlines

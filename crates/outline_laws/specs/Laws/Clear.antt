@@ -3,16 +3,18 @@
 --   clear_of S q d          whether the point is below the greatest value along d, or d is no direction
 --   clear_is                for a list whose sides are edges, reduced
 --   inner_where_clear       and then it is inner, where the list has area
-use Rattle.std.proofs.Common.{◌≡◌, ℕ, zero, suc, ◌+◌, ◌*◌, ◌≤◌, ◌<◌, ◌^◌, length, unsigned_abs, int_div, List, [], ◌∷◌, ◌++◌, map, refl, ap, ap₂, sym, subst, ◌∙◌, arith, ℤ, pos, ◌+ℤ◌, ◌*ℤ◌, ◌≤ℤ◌, ◌<ℤ◌, inl, inr, ◌↔◌, Bool, true, false, ◌&&◌, ◌||◌}
+use Rattle.std.proofs.Common.{◌≡◌, ℕ, zero, suc, ◌+◌, ◌*◌, ◌≤◌, ◌<◌, ◌^◌, length, unsigned_abs, int_div, List, [], ◌∷◌, ◌++◌, map, refl, ap, ap₂, sym, subst, ◌∙◌, arith, ℤ, pos, neg_ℤ, ◌+ℤ◌, ◌*ℤ◌, ◌≤ℤ◌, ◌<ℤ◌, inl, inr, ◌↔◌, Bool, true, false, ◌&&◌, ◌||◌}
 use Rattle.std.specs.Prelude.{int_lt}
 use Rattle.std.specs.List.{list_all}
 use Rattle.std.proofs.lemmas.Int.{ints, by_lt_z, unsigned_abs-mul}
 use Rattle.std.proofs.lemmas.Bool.Decides.{nat_tests}
+use Rattle.std.proofs.Math.Nat.{eq-one_of_dvd-one}
 use Rattle.integer_laws.specs.Laws.Ring.{expand}
 use Rattle.integer_laws.specs.Laws.Order.{same_from, add_same, mul_same, mul_le, cancel_le, le_from}
-use Rattle.integer_laws.specs.Divisors.{Reduces}
+use Rattle.integer_laws.specs.Divisors.{Reduces, IsPrimitive, AreCoprime}
 use Rattle.integer_laws.specs.Laws.Divisors.{gcd_is, reduces_by_gcd}
 use Rattle.integer_laws.specs.Laws.Extremes.{greatest_unique}
+use Rattle.integer_laws.specs.Extremes.{IsGreatest}
 use Rattle.integer_laws.specs.Members.{In}
 use Rattle.integer_laws.specs.Laws.Members.{In-from_contains}
 use Rattle.seq_model.specs.Contacts.{difference}
@@ -24,14 +26,16 @@ use Rattle.seq_model.specs.declared.tree.Dir.{Dir}
 use Rattle.seq_model.specs.declared.point.RatPoint.{RatPoint}
 use Rattle.model_laws.specs.Laws.Turning.{left_by_list}
 use Rattle.outline_laws.specs.Corners.{HasArea}
+use Rattle.outline_laws.specs.Outlines.{AreOutlines}
 use Rattle.outline_laws.specs.Beyond.{BeyondNoSide}
-use Rattle.outline_laws.specs.Laws.Sides.{greatest_of, some_size, free_of_inner, inner_of_free}
+use Rattle.outline_laws.specs.Laws.Means.{inner_below}
+use Rattle.outline_laws.specs.Laws.Sides.{Lower, some_below, greatest_of, some_size, free_of_inner, inner_of_free}
 use Rattle.outline_laws.specs.Laws.Edges.{area_of_turns}
 use Rattle.outline_laws.specs.Laws.Angles.{IsDirection}
 use Rattle.outline_laws.specs.Laws.Ahead.{Across, is_zero, direction_of, no_direction, no_truth, edges_of}
 use Rattle.outline_laws.specs.Laws.Loops.{IsShort, edges_if, edges_plain, edges_turned, back}
 use Rattle.outline_laws.specs.Laws.Differences.{area_of_difference, greatest_difference}
-use Rattle.outline_laws.specs.Laws.Around.{all_edges, AreOutlines, sides_are, long_direction}
+use Rattle.outline_laws.specs.Laws.Around.{all_edges, sides_are, long_direction}
 
 -- ---- a direction and what it reduces to
 along_reduced : (l d : Dir) (r : Reduces l.x l.y d.x d.y) (s : Spot) → along l s ≡ r.k *ℤ along d s
@@ -101,7 +105,7 @@ both_true : (a b : Bool) → (a && b) ≡ true → (a ≡ true) × (b ≡ true)
 both_true true b e = (refl, e)
 both_true false b e = no_truth e
 
-all_in : (test : Dir → Bool) (ds : List Dir) → list_all test ds ≡ true → (d : Dir) → In d ds → test d ≡ true
+pub all_in : (test : Dir → Bool) (ds : List Dir) → list_all test ds ≡ true → (d : Dir) → In d ds → test d ≡ true
 all_in test [] e d i = absurd i
 all_in test (x ∷ ds) e d (inl s) = ap test s ∙ (both_true (test x) (list_all test ds) e).0
 all_in test (x ∷ ds) e d (inr i) = all_in test ds (both_true (test x) (list_all test ds) e).1 d i
@@ -144,7 +148,7 @@ area_of_corners : (A B F : List Spot) → AreOutlines A B F → 3 ≤ length A �
 area_of_corners [] B F o h = absurd (omega (arith, h))
 area_of_corners (a ∷ []) B F o h = absurd (omega (arith, h))
 area_of_corners (a ∷ b ∷ []) B F o h = absurd (omega (arith, h))
-area_of_corners (a ∷ b ∷ c ∷ cs) [] F o h = absurd (omega (arith, o.b_some))
+area_of_corners (a ∷ b ∷ c ∷ cs) [] F o h = absurd (omega (arith, o.b_area))
 area_of_corners (a ∷ b ∷ c ∷ cs) (d ∷ B) [] o h = absurd (omega (arith, o.f_some))
 area_of_corners (a ∷ b ∷ c ∷ cs) (d ∷ B) (f ∷ F) o h = area_of_difference (a ∷ b ∷ c ∷ cs) (d ∷ B) (f ∷ F) d f (area_of_turns a b c cs (left_by_list (a ∷ b ∷ c ∷ cs) o.a)) (inl refl) (inl refl)
 
@@ -181,3 +185,48 @@ short_reduced l d r s = (shorter (2 ^ 22) l.x r.k d.x r.x_is r.positive s.0, sho
 
 pub some_direction : (d : Dir) → IsDirection d → 0 < unsigned_abs d.x + unsigned_abs d.y
 some_direction d n = some_size d.x d.y n
+
+-- ---- along any direction
+pub inner_is_below : (S : List Spot) (q : Point) (d : Dir) → HasArea S → IsPrimitive d.x d.y → Inner S q → clear_of S q d ≡ true
+inner_is_below S q d area prim m = yes_clear S q d (λ n b. never (below (some_below S d (greatest_along d S) area prim is.bound)) b)
+  where
+    is : IsGreatest (along d) S (greatest_along d S)
+    is = greatest_of d S area.i (In-from_contains S area.i area.i_in)
+
+    below : Lower S d (greatest_along d S) → (d.x *ℤ q.x +ℤ d.y *ℤ q.y) <ℤ (greatest_along d S *ℤ q.d)
+    below low = inner_below d.x d.y (greatest_along d S) S q is.bound low.at low.member low.lower m
+
+    never : {a b : ℤ} → a <ℤ b → b ≤ℤ a → ⊥
+    never h k = absurd (omega (arith, ints, h, k))
+
+abbrev pub axis : ℤ → ℤ → Dir
+axis x y = record { x = x; y = y }
+
+abbrev pub in_box : List Spot → Point → Bool
+in_box S q = (clear_of S q (axis (pos 1) (pos 0)) && clear_of S q (axis (pos 0) (pos 1))) && (clear_of S q (axis (neg_ℤ (pos 1)) (pos 0)) && clear_of S q (axis (pos 0) (neg_ℤ (pos 1))))
+
+pub inner_in_box : (S : List Spot) (q : Point) → HasArea S → Inner S q → in_box S q ≡ true
+inner_in_box S q area m = ap₂ (λ a b. a && b) (ap₂ (λ a b. a && b) (at (axis (pos 1) (pos 0)) (one 0)) (at (axis (pos 0) (pos 1)) (other 0))) (ap₂ (λ a b. a && b) (at (axis (neg_ℤ (pos 1)) (pos 0)) (one 0)) (at (axis (pos 0) (neg_ℤ (pos 1))) (other 0)))
+  where
+    at : (d : Dir) → IsPrimitive d.x d.y → clear_of S q d ≡ true
+    at d p = inner_is_below S q d area p m
+
+    one : (n : ℕ) → AreCoprime 1 n
+    one n k d e = eq-one_of_dvd-one d
+
+    other : (n : ℕ) → AreCoprime n 1
+    other n k d e = eq-one_of_dvd-one e
+
+pub inner_is_all : (A B F : List Spot) (q : Point) → AreOutlines A B F → IsPoint q
+    → (in_box (difference A B F) q && list_all (clear_of (difference A B F) q) (all_edges A B F) ≡ true) ↔ Inner (difference A B F) q
+inner_is_all A B F q o is =
+    let c = inner_is_clear A B F q o o.a_area is in
+    let area = area_of_corners A B F o o.a_area in
+    (λ e. c.0 (both_true _ _ e).1, λ m. ap₂ (λ a b. a && b) (inner_in_box (difference A B F) q area m) (c.1 m))
+
+pub free_is_all : (A B F : List Spot) (q : Point) → AreOutlines A B F → IsPoint q
+    → (in_box (difference A B F) q && list_all (clear_of (difference A B F) q) (all_edges A B F) ≡ true) ↔ BeyondNoSide (difference A B F) q
+free_is_all A B F q o is =
+    let all = inner_is_all A B F q o is in
+    let area = area_of_corners A B F o o.a_area in
+    (λ e. free_of_inner (difference A B F) q area (all.0 e), λ f. all.1 (inner_of_free (difference A B F) q area is f))

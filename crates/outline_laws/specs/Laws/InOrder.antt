@@ -29,10 +29,11 @@ use Rattle.seq_model.specs.declared.printer.Spot.{Spot}
 use Rattle.outline_laws.specs.Corners.{AreCorners}
 use Rattle.seq_model.specs.declared.tree.Dir.{Dir}
 use Rattle.outline_laws.specs.Directions.{IsDirection, HaveSameAngle, IsGoodAfter, AllReduced, After, angle_cmp, crossed, upper, lesser, is_zero, is_after}
+use Rattle.outline_laws.specs.Outlines.{AreOutlines}
 use Rattle.outline_laws.specs.Edges.{Across, edges_of, all_edges}
 use Rattle.outline_laws.specs.Laws.Ahead.{side_across, lesser_is, is_lesser, direction_of, no_direction, no_truth, after_is, not_after}
 use Rattle.outline_laws.specs.Laws.Angles.{compare_angles, lesser_trans, lesser_congr, lesser_congr_right, lesser_not_back, same_not_lesser, same_reduced, same_turned, reduced_direction, one_primitive}
-use Rattle.outline_laws.specs.Laws.Around.{AreOutlines, long_direction, sides_are}
+use Rattle.outline_laws.specs.Laws.Around.{long_direction, sides_are}
 use Rattle.outline_laws.specs.Laws.Sides.{some_size}
 
 -- ---- the order
