@@ -1,0 +1,4 @@
+pub mod Firsts
+pub mod Places
+pub mod Faults
+pub mod Steps
