@@ -27,7 +27,14 @@ fn is_clear(dir: &Dir, a: &[Spot], b: &[Spot], f: &[Spot], at: &RatPoint) -> boo
     is_none(dir) || value_at(dir, at) < limit_at(support_along(dir, a, b, f), at)
 }
 
-fn edges_are_clear(of: &[Spot], turned: bool, a: &[Spot], b: &[Spot], f: &[Spot], at: &RatPoint) -> bool
+fn edges_are_clear(
+    of: &[Spot],
+    turned: bool,
+    a: &[Spot],
+    b: &[Spot],
+    f: &[Spot],
+    at: &RatPoint,
+) -> bool
     requires of_near { All IsNarrow of.now }
     requires of_some { 1 ≤ length of.now }
     requires outlines { AreOutlines a.now b.now f.now }

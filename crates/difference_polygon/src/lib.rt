@@ -15,7 +15,7 @@ mod values;
 
 pub use around::{next_side, sides_of};
 pub use inside::strictly_in;
-pub use rows::{side_row, SideRow};
+pub use rows::{SideRow, side_row};
 pub use values::support;
 
 #[cfg(test)]

@@ -36,7 +36,12 @@ fn support_of_zones(dir: &Dir, a: &Zone, b: &Zone, part: &Part) -> i64
     ensures value { result ≡ greatest_along dir.now (difference a.now.corners b.now.corners part.now.corners) }
     ensures size { unsigned_abs result < 2 ^ 46 }
 {
-    support_along(dir, a.corners.as_slice(), b.corners.as_slice(), part.corners.as_slice())
+    support_along(
+        dir,
+        a.corners.as_slice(),
+        b.corners.as_slice(),
+        part.corners.as_slice(),
+    )
 }
 
 fn support_of(job: &Job, contact: &Contact, dir: &Dir) -> i64

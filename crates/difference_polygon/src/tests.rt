@@ -70,7 +70,10 @@ fn are_rows(dirs: &[Dir], rows: &[(i64, i64, i64)], a: &[Spot], b: &[Spot], f: &
         return false;
     }
     for k in 0..dirs.len() {
-        if dirs[k].x != rows[k].0 || dirs[k].y != rows[k].1 || support(dirs[k], a, b, f) != rows[k].2 {
+        if dirs[k].x != rows[k].0
+            || dirs[k].y != rows[k].1
+            || support(dirs[k], a, b, f) != rows[k].2
+        {
             return false;
         }
     }
@@ -114,7 +117,12 @@ static ROWS: [((Shape, Shape, Shape), &[(i64, i64, i64)]); 4] = [
     ),
 ];
 
-fn see_sides(rt: &impl Abort, alloc: Global, shapes: &(Shape, Shape, Shape), rows: &[(i64, i64, i64)]) -> Result<(), Fail> {
+fn see_sides(
+    rt: &impl Abort,
+    alloc: Global,
+    shapes: &(Shape, Shape, Shape),
+    rows: &[(i64, i64, i64)],
+) -> Result<(), Fail> {
     let a = outline(alloc, shapes.0)?;
     let b = outline(alloc, shapes.1)?;
     let f = outline(alloc, shapes.2)?;
@@ -122,7 +130,15 @@ fn see_sides(rt: &impl Abort, alloc: Global, shapes: &(Shape, Shape, Shape), row
     assert!(rt; b.len() >= 3);
     assert!(rt; f.len() >= 1);
     let dirs = sides_of(alloc, a.as_slice(), b.as_slice(), f.as_slice())?;
-    assert!(rt; are_rows(dirs.as_slice(), rows, a.as_slice(), b.as_slice(), f.as_slice()));
+    assert!(rt;
+        are_rows(
+            dirs.as_slice(),
+            rows,
+            a.as_slice(),
+            b.as_slice(),
+            f.as_slice()
+        )
+    );
     Ok(())
 }
 
@@ -139,9 +155,17 @@ static POINTS: [((Shape, Shape, Shape), (i8, i8, u8), bool); 6] = [
     ((Shape::Cube, Shape::Cube, Shape::Nozzle), (24, 0, 1), false),
     ((Shape::Cube, Shape::Cube, Shape::Nozzle), (47, 0, 2), true),
     ((Shape::Cube, Shape::Cube, Shape::Tip), (47, 0, 2), false),
-    ((Shape::Triangle, Shape::Cube, Shape::Bar), (-9, -9, 1), true),
+    (
+        (Shape::Triangle, Shape::Cube, Shape::Bar),
+        (-9, -9, 1),
+        true,
+    ),
     ((Shape::Triangle, Shape::Cube, Shape::Bar), (0, 5, 1), true),
-    ((Shape::Triangle, Shape::Cube, Shape::Bar), (-20, 5, 1), false),
+    (
+        (Shape::Triangle, Shape::Cube, Shape::Bar),
+        (-20, 5, 1),
+        false,
+    ),
 ];
 
 fn point(numbers: &(i8, i8, u8)) -> RatPoint
@@ -154,7 +178,13 @@ fn point(numbers: &(i8, i8, u8)) -> RatPoint
     }
 }
 
-fn see_point(rt: &impl Abort, alloc: Global, shapes: &(Shape, Shape, Shape), at: &RatPoint, inner: bool) -> Result<(), Fail>
+fn see_point(
+    rt: &impl Abort,
+    alloc: Global,
+    shapes: &(Shape, Shape, Shape),
+    at: &RatPoint,
+    inner: bool,
+) -> Result<(), Fail>
     requires { FitsProducts at.now }
 {
     let a = outline(alloc, shapes.0)?;
@@ -163,7 +193,10 @@ fn see_point(rt: &impl Abort, alloc: Global, shapes: &(Shape, Shape, Shape), at:
     assert!(rt; a.len() >= 3);
     assert!(rt; b.len() >= 3);
     assert!(rt; f.len() >= 1);
-    assert_eq!(rt; strictly_in(a.as_slice(), b.as_slice(), f.as_slice(), at), inner);
+    assert_eq!(rt;
+        strictly_in(a.as_slice(), b.as_slice(), f.as_slice(), at),
+        inner
+    );
     Ok(())
 }
 

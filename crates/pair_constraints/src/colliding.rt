@@ -14,7 +14,13 @@ use crate::overlaps::zones_overlap;
 use printer_envelopes::zones_meet;
 use seq_model::{Contact, Job, Part, Place, Zone};
 
-fn contact_overlaps(job: &Job, contact: &Contact, earlier: &Place, later: &Place, scale: i128) -> bool
+fn contact_overlaps(
+    job: &Job,
+    contact: &Contact,
+    earlier: &Place,
+    later: &Place,
+    scale: i128,
+) -> bool
     requires contact { IsContact job.now contact.now }
     requires places { ArePlaces earlier.now later.now scale }
     ensures { IsTrue result ↔ Overlap (zone_at job.now contact.now.i contact.now.zi).corners
@@ -51,7 +57,14 @@ fn zones_hit(a: &Zone, b: &Zone, part: &Part, earlier: &Place, later: &Place, sc
     zones_meet(part, b, a) && zones_overlap(a, b, part, earlier, later, scale)
 }
 
-fn first_part(parts: &[Part], a: &Zone, b: &Zone, earlier: &Place, later: &Place, scale: i128) -> Option<u32>
+fn first_part(
+    parts: &[Part],
+    a: &Zone,
+    b: &Zone,
+    earlier: &Place,
+    later: &Place,
+    scale: i128,
+) -> Option<u32>
     requires parts { All IsSoundPart parts.now }
     requires few { length parts.now ≤ 16 }
     requires a { IsSoundZone a.now }
@@ -68,7 +81,14 @@ fn first_part(parts: &[Part], a: &Zone, b: &Zone, earlier: &Place, later: &Place
     None
 }
 
-fn first_zone(parts: &[Part], zones: &[Zone], b: &Zone, earlier: &Place, later: &Place, scale: i128) -> Option<(u32, u32)>
+fn first_zone(
+    parts: &[Part],
+    zones: &[Zone],
+    b: &Zone,
+    earlier: &Place,
+    later: &Place,
+    scale: i128,
+) -> Option<(u32, u32)>
     requires parts { All IsSoundPart parts.now }
     requires few { length parts.now ≤ 16 }
     requires zones { All IsSoundZone zones.now }
@@ -86,7 +106,14 @@ fn first_zone(parts: &[Part], zones: &[Zone], b: &Zone, earlier: &Place, later: 
     None
 }
 
-fn first_pair(parts: &[Part], zones: &[Zone], later_zones: &[Zone], earlier: &Place, later: &Place, scale: i128) -> Option<(u32, (u32, u32))>
+fn first_pair(
+    parts: &[Part],
+    zones: &[Zone],
+    later_zones: &[Zone],
+    earlier: &Place,
+    later: &Place,
+    scale: i128,
+) -> Option<(u32, (u32, u32))>
     requires parts { All IsSoundPart parts.now }
     requires few { length parts.now ≤ 16 }
     requires zones { All IsSoundZone zones.now }
@@ -117,8 +144,12 @@ pub fn next_contact(job: &Job, earlier: &Place, later: &Place, scale: i128) -> O
     ensures none { IsNone result ↔ (Collides (scene_of_job job.now) earlier.now.object (place_point scale earlier.now)
         later.now.object (place_point scale later.now) → ⊥) }
 {
-    let a = job.objects.as_slice()[earlier.object as usize].zones.as_slice();
-    let b = job.objects.as_slice()[later.object as usize].zones.as_slice();
+    let a = job.objects.as_slice()[earlier.object as usize]
+        .zones
+        .as_slice();
+    let b = job.objects.as_slice()[later.object as usize]
+        .zones
+        .as_slice();
     match first_pair(job.printer.parts.as_slice(), a, b, earlier, later, scale) {
         Some((zj, (zi, part))) => Some(Contact {
             i: earlier.object,

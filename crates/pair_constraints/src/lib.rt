@@ -15,8 +15,8 @@ mod overlaps;
 
 pub use colliding::{collides, next_contact};
 pub use laws::{
-    a_contact_collides_where_its_gap_is_inner, a_side_row_is_met_beyond_the_side, beyond_any_direction_is_out_of_reach,
-    covered_contacts_need_no_opening,
+    a_contact_collides_where_its_gap_is_inner, a_side_row_is_met_beyond_the_side,
+    beyond_any_direction_is_out_of_reach, covered_contacts_need_no_opening,
 };
-pub use limits::{cover, is_inside, limits_of, Limit};
+pub use limits::{Limit, cover, is_inside, limits_of};
 pub use overlaps::zones_overlap;

@@ -68,7 +68,13 @@ fn limit_along(dir: &Dir, a: &[Spot], b: &[Spot], f: &[Spot]) -> Limit
     }
 }
 
-fn limits_along(alloc: Global, dirs: &[Dir], a: &[Spot], b: &[Spot], f: &[Spot]) -> Result<Vec<Limit>, AllocError>
+fn limits_along(
+    alloc: Global,
+    dirs: &[Dir],
+    a: &[Spot],
+    b: &[Spot],
+    f: &[Spot],
+) -> Result<Vec<Limit>, AllocError>
     requires dirs { All IsShort dirs.now }
     requires outlines { AreOutlines a.now b.now f.now }
     ensures value { IfOk result (λ limits. limits.items ≡ map (limit_of (difference a.now b.now f.now)) dirs.now) }

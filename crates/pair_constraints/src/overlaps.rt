@@ -49,7 +49,14 @@ fn overlap(a: &[Spot], b: &[Spot], f: &[Spot], earlier: &Place, later: &Place, s
 }
 
 /// Whether two zones overlap at the places of their objects, spread by the part.
-pub fn zones_overlap(a: &Zone, b: &Zone, part: &Part, earlier: &Place, later: &Place, scale: i128) -> bool
+pub fn zones_overlap(
+    a: &Zone,
+    b: &Zone,
+    part: &Part,
+    earlier: &Place,
+    later: &Place,
+    scale: i128,
+) -> bool
     requires a { IsSoundZone a.now }
     requires b { IsSoundZone b.now }
     requires part { IsSoundPart part.now }

@@ -71,7 +71,7 @@ pub side_row_value : (job : Job) (e : ℕ) (d : ℤ) (u : List ℤ) (c : Contact
 side_row_value job e d u c dir i j apart len =
     let n = 2 * length job.objects in
     let four = dot_four n (2 * c.i) (2 * c.i + 1) (2 * c.j) (2 * c.j + 1) u (neg_ℤ dir.x) (neg_ℤ dir.y) dir.x dir.y (omega (arith, i)) (omega (arith, i)) (omega (arith, j)) (omega (arith, j)) len
-        (λ f. absurd (omega (arith, f))) (λ f. apart (omega (arith, f))) (λ f. absurd (omega (arith, f))) (λ f. absurd (omega (arith, f))) (λ f. apart (omega (arith, f))) (λ f. absurd (omega (arith, f))) in
+    (λ f. absurd (omega (arith, f))) (λ f. apart (omega (arith, f))) (λ f. absurd (omega (arith, f))) (λ f. absurd (omega (arith, f))) (λ f. apart (omega (arith, f))) (λ f. absurd (omega (arith, f))) in
     let p = job.printer in
     let li = low_of job e c.i in
     let lj = low_of job e c.j in

@@ -31,8 +31,8 @@ returns-in-Some-clause-none c =
     let b = zones_are c.args.job.now c.args.later.now.object _ _ c.as_slice-b.result.now c.requires.later c.as_slice-2.ensures c.as_slice-b.ensures in
     let f = found_pair c.args.job.now c.args.earlier.now c.args.later.now c.args.scale _ c.as_slice-3.result.now c.as_slice-a.result.now c.as_slice-b.result.now c.first_pair.result (to_z-of_z fits) c.as_slice-3.ensures a b c.first_pair.ensures in
     let g = first_contact c.args.job.now c.args.earlier.now.object c.args.later.now.object (place_point c.args.scale c.args.earlier.now) (place_point c.args.scale c.args.later.now) (c.in-Some.zj, (c.in-Some.zi, c.in-Some.part))
-            c.requires.earlier c.requires.later c.requires.apart
-            (subst (IsFirst (HitsBetween c.args.job.now c.args.earlier.now.object c.args.later.now.object (place_point c.args.scale c.args.earlier.now) (place_point c.args.scale c.args.later.now)) (Sooner (Sooner (λ a b. a < b)))) c.in-Some.is f) in
+    c.requires.earlier c.requires.later c.requires.apart
+    (subst (IsFirst (HitsBetween c.args.job.now c.args.earlier.now.object c.args.later.now.object (place_point c.args.scale c.args.earlier.now) (place_point c.args.scale c.args.later.now)) (Sooner (Sooner (λ a b. a < b)))) c.in-Some.is f) in
     (λ e. absurd cc, λ free. absurd (free (a_collision c.args.job.now c.args.earlier.now.object c.args.later.now.object _ _ (contact_by c.args.earlier.now.object c.args.later.now.object (c.in-Some.zj, (c.in-Some.zi, c.in-Some.part))) g.0)))
 
 pub returns-in-None-clause-first : goal.returns-in-None-clause-first
@@ -51,5 +51,5 @@ returns-in-None-clause-none c =
     let b = zones_are c.args.job.now c.args.later.now.object _ _ c.as_slice-b.result.now c.requires.later c.as_slice-2.ensures c.as_slice-b.ensures in
     let f = found_pair c.args.job.now c.args.earlier.now c.args.later.now c.args.scale _ c.as_slice-3.result.now c.as_slice-a.result.now c.as_slice-b.result.now c.first_pair.result (to_z-of_z fits) c.as_slice-3.ensures a b c.first_pair.ensures in
     let g = no_contact c.args.job.now c.args.earlier.now.object c.args.later.now.object (place_point c.args.scale c.args.earlier.now) (place_point c.args.scale c.args.later.now)
-            (subst (IsFirst (HitsBetween c.args.job.now c.args.earlier.now.object c.args.later.now.object (place_point c.args.scale c.args.earlier.now) (place_point c.args.scale c.args.later.now)) (Sooner (Sooner (λ a b. a < b)))) c.in-None.is f) in
+    (subst (IsFirst (HitsBetween c.args.job.now c.args.earlier.now.object c.args.later.now.object (place_point c.args.scale c.args.earlier.now) (place_point c.args.scale c.args.later.now)) (Sooner (Sooner (λ a b. a < b)))) c.in-None.is f) in
     (λ e. no_collision c.args.job.now c.args.earlier.now.object c.args.later.now.object _ _ c.requires.apart g, λ free. refl)
