@@ -162,25 +162,6 @@ fn large_files_are_read_or_too_long(rt: HostRuntime) -> Result<(), Fail> {
     see(&rt, rt.alloc(), &printer, &large, ARRANGE, (4, b"", line))
 }
 
-// Meshes at their limits: the most facets, and the fewest bytes that are too many.
-static LARGE: [(Mesh, u8, &[u8], &[u8]); 2] = [
-    (Mesh::Most, 0, PLAN, b""),
-    (
-        Mesh::Blank(67_108_865),
-        4,
-        b"",
-        b"input: a.stl: longer than 67108864 bytes\n",
-    ),
-];
-
-#[test]
-fn meshes_are_read_up_to_their_limits(rt: HostRuntime) -> Result<(), Fail> {
-    for (mesh, status, text, line) in &LARGE {
-        see(&rt, rt.alloc(), PLATE, mesh, ARRANGE, (*status, text, line))?;
-    }
-    Ok(())
-}
-
 const NO_MESH: &[&str] = &["arrange", "p0.toml"];
 
 // Words, calls of the shelf that fail, the status and the line on `err`.

@@ -11,16 +11,12 @@ pub(crate) enum Mesh {
     Text(&'static [u8]),
     /// The head of a binary file, and room for its 12 facets.
     Binary,
-    /// So many blanks.
-    Blank(usize),
     /// A block of this height, in millimetres.
     Block(i64),
     /// So many cubes in one place, of 12 facets each.
     Cubes(u32),
     /// A cube, as an exporter writes it.
     Exported,
-    /// Cubes and a wedge in one place, of 200,000 facets in all.
-    Most,
     /// A cube without its last facet.
     Open,
     /// A cube, and a facet of which two corners are equal.
@@ -136,11 +132,13 @@ fn solid(
         Style::Plain => (b"solid s\n".as_slice(), b"endsolid s\n".as_slice()),
         Style::Exported => (b"SOLID\r\n".as_slice(), b"ENDSOLID\r\n".as_slice()),
     };
+    let mut once = Vec::new(alloc);
+    for corners in facets {
+        facet(alloc, &mut once, style, corners, height)?;
+    }
     text.extend_from_slice(opening)?;
     for _ in 0..count {
-        for corners in facets {
-            facet(alloc, text, style, corners, height)?;
-        }
+        text.extend_from_slice(&once)?;
     }
     text.extend_from_slice(closing)?;
     Ok(())
@@ -162,11 +160,6 @@ fn put(alloc: Global, text: &mut Vec<u8>, mesh: &Mesh) -> Result<(), Fail> {
         Mesh::Block(height) => solid(alloc, text, Style::Plain, &CUBE, 1, *height),
         Mesh::Cubes(count) => solid(alloc, text, Style::Plain, &CUBE, *count, 20),
         Mesh::Exported => solid(alloc, text, Style::Exported, &CUBE, 1, 20),
-        Mesh::Blank(count) => Ok(text.resize(*count, b' ')?),
-        Mesh::Most => {
-            solid(alloc, text, Style::Plain, &CUBE, 16_666, 20)?;
-            solid(alloc, text, Style::Plain, &WEDGE, 1, 20)
-        }
         Mesh::Open => solid(alloc, text, Style::Plain, &CUBE[..11], 1, 20),
         Mesh::Dropped => {
             solid(alloc, text, Style::Plain, &CUBE, 1, 20)?;
