@@ -20,7 +20,8 @@ fn first_fault(job: &Job, extent: u32, places: &[Place], scale: i128) -> Verdict
     requires scale { unsigned_abs scale < 2 ^ 62 }
     requires few { length places.now ≤ 16 }
     requires roomy { All IsRoomy places.now }
-    ensures { IsVerdict (scene_of_job job.now) extent (record { scale = scale; places = places.now }) result }
+    ensures { IsVerdict (scene_of_job job.now) extent
+        (record { scale = scale; places = places.now }) result }
 {
     if let Some(place) = first_stray(job, places) {
         return Verdict::Stray(place);

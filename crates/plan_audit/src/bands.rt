@@ -51,7 +51,8 @@ fn first_part(
     requires a { IsSoundZone a.now }
     requires b { IsSoundZone b.now }
     requires at { FitsProducts at.now }
-    ensures { IsFirst (PartHits parts.now a.now.corners b.now.corners later_band band at.now) Less result }
+    ensures { IsFirst (PartHits parts.now a.now.corners b.now.corners later_band band at.now)
+        Less result }
 {
     for k in 0..parts.len() {
         if part_hits(&parts[k], a, b, later_band, band, at) {
@@ -86,7 +87,8 @@ fn first_band(job: &Job, i: u32, b: &Zone, later_band: u32, at: &RatPoint) -> Op
     requires known { i < length job.now.objects }
     requires b { IsSoundZone b.now }
     requires at { FitsProducts at.now }
-    ensures { IsFirst (EarlierHits (scene_of_job job.now) i b.now.corners later_band at.now) (Sooner Less) result }
+    ensures { IsFirst (EarlierHits (scene_of_job job.now) i b.now.corners later_band at.now)
+        (Sooner Less) result }
 {
     for band in 0..job.objects.as_slice()[i as usize].bands {
         if let Some(part) = in_band(job, i, band, b, later_band, at) {
@@ -100,8 +102,8 @@ fn in_later_band(job: &Job, i: u32, j: u32, band: u32, at: &RatPoint) -> Option<
     requires known { i < length job.now.objects }
     requires later_known { j < length job.now.objects }
     requires at { FitsProducts at.now }
-    ensures { IsFirst (EarlierHits (scene_of_job job.now) i ((scene_of_job job.now).spots j band) band at.now)
-        (Sooner Less) result }
+    ensures { IsFirst (EarlierHits (scene_of_job job.now) i
+        ((scene_of_job job.now).spots j band) band at.now) (Sooner Less) result }
 {
     let zones = job.objects.as_slice()[j as usize].zones.as_slice();
     match zone_in(zones, band) {

@@ -74,7 +74,8 @@ fn first_after(
     requires known { All (λ p. p.object < length job.now.objects) places.now }
     requires one { pos 1 ≤ℤ scale }
     requires scale { unsigned_abs scale < 2 ^ 62 }
-    ensures { IsFirst (HitsAfter (scene_of_job job.now) scale places.now e) (Sooner (Sooner (Sooner Less))) result }
+    ensures { IsFirst (HitsAfter (scene_of_job job.now) scale places.now e)
+        (Sooner (Sooner (Sooner Less))) result }
 {
     for l in e + 1..places.len() {
         if let Some(rest) = first_of_pair(job, &places[e], &places[l], scale) {
@@ -94,7 +95,8 @@ fn first_numbers(
     requires few { length places.now ≤ 16 }
     requires roomy { All IsRoomy places.now }
     requires known { All (λ p. p.object < length job.now.objects) places.now }
-    ensures { IsFirst (HitsAt (scene_of_job job.now) scale places.now) (Sooner (Sooner (Sooner (Sooner Less)))) result }
+    ensures { IsFirst (HitsAt (scene_of_job job.now) scale places.now)
+        (Sooner (Sooner (Sooner (Sooner Less)))) result }
 {
     for e in 0..places.len() {
         if let Some(rest) = first_after(job, places, e, scale) {

@@ -24,7 +24,8 @@ fn stands_below(places: &[Place], below: usize, object: u32) -> bool
 
 fn is_stray(places: &[Place], k: usize, count: usize) -> bool
     requires { k < length places.now }
-    ensures { (result ≡ true) ↔ ((count ≤ (nth places.now k).object) ⊎ StandsBelow places.now k (nth places.now k).object) }
+    ensures { (result ≡ true) ↔ ((count ≤ (nth places.now k).object)
+        ⊎ StandsBelow places.now k (nth places.now k).object) }
 {
     places[k].object as usize >= count || stands_below(places, k, places[k].object)
 }

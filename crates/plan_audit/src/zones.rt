@@ -19,7 +19,8 @@ pub(crate) fn overlap(a: &Zone, b: &Zone, part: &Part, at: &RatPoint) -> bool
     requires b { IsSoundZone b.now }
     requires part { IsSoundPart part.now }
     requires at { FitsProducts at.now }
-    ensures { IsTrue result ↔ Inner (difference a.now.corners b.now.corners part.now.corners) at.now }
+    ensures { IsTrue result
+        ↔ Inner (difference a.now.corners b.now.corners part.now.corners) at.now }
 {
     strictly_in(
         a.corners.as_slice(),
@@ -89,7 +90,8 @@ pub(crate) fn objects_hit(job: &Job, i: u32, j: u32, at: &RatPoint) -> bool
     requires known { i < length job.now.objects }
     requires later_known { j < length job.now.objects }
     requires at { FitsProducts at.now }
-    ensures { IsTrue result ↔ SomePairHits job.now.printer.parts (zones_of job.now i) (zones_of job.now j) at.now }
+    ensures { IsTrue result ↔ SomePairHits job.now.printer.parts
+        (zones_of job.now i) (zones_of job.now j) at.now }
 {
     let zones = job.objects.as_slice()[i as usize].zones.as_slice();
     let later_zones = job.objects.as_slice()[j as usize].zones.as_slice();

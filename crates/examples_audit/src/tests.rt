@@ -1,0 +1,182 @@
+ghost use Rattle.std.specs.Prelude.{◌≡◌, ◌∷◌, [], pos, length, All, IfOk};
+ghost use Rattle.examples_model.specs.Cubes.{cube, nozzle, gantry, object_of};
+ghost use Rattle.examples_model.specs.Jobs.{gantry_part, nozzle_part};
+ghost use Rattle.plan_audit.specs.Places.{IsRoomy};
+ghost use Rattle.seq_model.specs.Parts.{tip};
+
+use owned_lists::{Items, Text};
+use plan_audit::{Hit, Verdict, audit};
+use seq_model::{Job, Object, Part, Place, Plan, Printer, Spot, Zone};
+use std::alloc::{AllocError, Global};
+use std::test::Fail;
+
+fn rectangle(
+    alloc: Global,
+    west: i64,
+    south: i64,
+    east: i64,
+    north: i64,
+) -> Result<Items<Spot>, AllocError>
+    ensures { IfOk result (λ spots. spots ≡ record { x = west; y = south } ∷ record { x = east; y = south }
+        ∷ record { x = east; y = north } ∷ record { x = west; y = north } ∷ []) }
+{
+    let mut corners = Items::new(alloc);
+    corners.push(Spot { x: west, y: south })?;
+    corners.push(Spot { x: east, y: south })?;
+    corners.push(Spot { x: east, y: north })?;
+    corners.push(Spot { x: west, y: north })?;
+    Ok(corners)
+}
+
+fn cube_object(alloc: Global) -> Result<Object, AllocError>
+    ensures { IfOk result (λ object. object ≡ object_of cube) }
+{
+    let mut zones = Items::new(alloc);
+    zones.push(Zone {
+        corners: rectangle(alloc, -1, -1, 21, 21)?,
+        first: 0,
+        last: 1,
+    })?;
+    Ok(Object {
+        name: Text::from_str(alloc, "")?,
+        height: 20_000,
+        bands: 2,
+        low: Spot { x: -1, y: -1 },
+        high: Spot { x: 21, y: 21 },
+        zones,
+    })
+}
+
+fn part(
+    alloc: Global,
+    name: &str,
+    corners: Items<Spot>,
+    lo: u32,
+    hi: Option<u32>,
+) -> Result<Part, AllocError>
+    ensures { IfOk result (λ part. part ≡ record { name = name.now; corners = corners; lo = lo; hi = hi }) }
+{
+    Ok(Part {
+        name: Text::from_str(alloc, name)?,
+        corners,
+        lo,
+        hi,
+    })
+}
+
+fn parts(alloc: Global) -> Result<Items<Part>, AllocError>
+    ensures { IfOk result (λ parts. parts ≡ tip ∷ nozzle_part ∷ gantry_part ∷ []) }
+{
+    let mut origin = Items::new(alloc);
+    origin.push(Spot { x: 0, y: 0 })?;
+    let mut parts = Items::new(alloc);
+    parts.push(part(alloc, "tip", origin, 0, Some(0))?)?;
+    parts.push(part(alloc, "nozzle", rectangle(alloc, -2, -2, 2, 2)?, 0, None)?)?;
+    parts.push(part(
+        alloc,
+        "gantry",
+        rectangle(alloc, -101, -10, 101, 10)?,
+        2,
+        None,
+    )?)?;
+    Ok(parts)
+}
+
+fn printer(alloc: Global) -> Result<Printer, AllocError> {
+    Ok(Printer {
+        grain: 1_000,
+        width: 100,
+        depth: 100,
+        step: 10_000,
+        margin: 1,
+        grid: 100,
+        parts: parts(alloc)?,
+    })
+}
+
+fn two_cubes(alloc: Global) -> Result<Job, AllocError> {
+    let mut objects = Items::new(alloc);
+    objects.push(cube_object(alloc)?)?;
+    objects.push(cube_object(alloc)?)?;
+    Ok(Job {
+        printer: printer(alloc)?,
+        objects,
+    })
+}
+
+// An object and the numerators of its place.
+type Stands = (u32, i64, i64);
+
+// An extent, a scale and places, and the verdict.
+type Row = (u32, u32, &'static [Stands], Verdict);
+
+// Two cubes need 24 grains in x or in y by the nozzle, 22 by the tip alone.
+static AUDITED: [Row; 12] = [
+    (100, 1, &[(0, 1, 1), (1, 25, 1)], Verdict::Good),
+    (100, 2, &[(0, 2, 2), (1, 49, 2)], NOZZLE),
+    (100, 1, &[(0, 1, 1)], Verdict::Absent(1)),
+    (100, 1, &[], Verdict::Absent(0)),
+    (100, 1, &[(0, 0, 1), (1, 40, 1)], Verdict::OffPlate(0)),
+    (100, 1, &[(0, 1, 1), (0, 25, 1)], Verdict::Stray(1)),
+    (
+        100,
+        1,
+        &[(2, 1, 1), (0, 1, 1), (1, 25, 1)],
+        Verdict::Stray(0),
+    ),
+    // an absent object comes before one off the plate, and that before a collision
+    (100, 1, &[(1, 0, 0)], Verdict::Absent(0)),
+    (100, 1, &[(1, 2, 1), (0, 0, 1)], Verdict::OffPlate(1)),
+    // the region of extent 46 goes from 27 to 73
+    (46, 1, &[(0, 28, 28), (1, 52, 28)], Verdict::Good),
+    (46, 1, &[(0, 28, 28), (1, 53, 28)], Verdict::OffPlate(1)),
+    (45, 1, &[(0, 28, 28), (1, 52, 28)], Verdict::OffPlate(1)),
+];
+
+const NOZZLE: Verdict = Verdict::Collides(Hit {
+    earlier: 0,
+    later: 1,
+    c: 0,
+    b: 0,
+    part: 1,
+});
+
+// The plan of these places, if an audit takes it.
+fn plan(alloc: Global, scale: u32, stands: &[Stands]) -> Result<Plan, AllocError>
+    ensures scale { IfOk result (λ plan. plan.scale ≡ pos scale) }
+    ensures many { IfOk result (λ plan. length plan.places ≡ length stands.now) }
+    ensures roomy { IfOk result (λ plan. All IsRoomy plan.places) }
+{
+    let mut places = Items::new(alloc);
+    for (object, x, y) in stands {
+        places.push(Place {
+            object: *object,
+            x: i128::from(*x),
+            y: i128::from(*y),
+        })?;
+    }
+    Ok(Plan {
+        scale: i128::from(scale),
+        places,
+    })
+}
+
+// The verdict on these places; none where an audit doesn't take them.
+fn verdict_of(alloc: Global, job: &Job, row: &Row) -> Result<Option<Verdict>, AllocError> {
+    let (extent, scale, stands, _) = *row;
+    if extent < 1 || extent > job.printer.grid || scale < 1 || stands.len() > 16 {
+        return Ok(None);
+    }
+    let plan = plan(alloc, scale, stands)?;
+    Ok(Some(audit(job, extent, &plan)))
+}
+
+#[test]
+fn two_cubes_are_audited(rt: HostRuntime) -> Result<(), Fail> {
+    let alloc = rt.alloc();
+    let job = two_cubes(alloc)?;
+    for row in &AUDITED {
+        assert_eq!(rt; verdict_of(alloc, &job, row)?, Some(row.3));
+    }
+    Ok(())
+}
