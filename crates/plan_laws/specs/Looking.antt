@@ -3,15 +3,20 @@
 --   OnPath path a b              a before b is on the path
 --   IsLooked job e path at a b   it is on the path, or it is forced at the point and the pair is unordered on the path
 --   AreLooked job e path at orders   each of these orders is
---   EarnsAPair job e path        some pair i < j of the job's objects is one whose split is earned
+--   pair_node a b                the node that splits by the order of a and b, the lesser number first
+--   EarnsPair job e path a b     this node is sound, and earned
+--   IsOnOrEarned job e path a b  a before b is on the path, or the split of the pair is earned
+--   EarnsAPair job e path        some pair of the job's objects is one whose split is earned
 --   AreForced job e path at forced   nothing collides in an order of the path, and each pair that is unordered on it and collides is
 --                                among these orders, the other way
 --   Causes n orders Clash        of two different objects below n that clash, the later one stands before the earlier in the orders
-use Rattle.std.specs.Prelude.{◌≢◌, ℕ, ◌<◌, List, length, Contains, ◌⊎◌}
+use Rattle.std.specs.Prelude.{◌≢◌, ℕ, ◌<◌, min, max, List, length, Contains, ◌⊎◌}
 use Rattle.seq_model.specs.Splits.{Values, CollidesAt, IsForced, IsUnordered, Earned}
+use Rattle.seq_model.specs.Trees.{IsSoundNode}
 use Rattle.seq_model.specs.declared.job.Job.{Job}
 use Rattle.seq_model.specs.declared.tree.Choice.{Choice}
 use Rattle.seq_model.specs.declared.tree.Choice.TheVariants as Choices
+use Rattle.seq_model.specs.declared.tree.Node.{Node}
 use Rattle.seq_model.specs.declared.tree.Node.TheVariants as Nodes
 
 abbrev pub OnPath : List Choice → ℕ → ℕ → Type 0
@@ -23,8 +28,17 @@ IsLooked job e path at a b = OnPath path a b ⊎ (IsForced job e at a b × IsUno
 abbrev pub AreLooked : Job → ℕ → List Choice → Values → List (ℕ × ℕ) → Type 0
 AreLooked job e path at orders = (a b : ℕ) → Contains orders (a, b) → IsLooked job e path at a b
 
+abbrev pub pair_node : ℕ → ℕ → Node
+pair_node a b = Nodes.Order (min a b) (max a b)
+
+abbrev pub EarnsPair : Job → ℕ → List Choice → ℕ → ℕ → Type 0
+EarnsPair job e path a b = IsSoundNode job e path (pair_node a b) × Earned job e path (pair_node a b)
+
+abbrev pub IsOnOrEarned : Job → ℕ → List Choice → ℕ → ℕ → Type 0
+IsOnOrEarned job e path a b = OnPath path a b ⊎ EarnsPair job e path a b
+
 abbrev pub EarnsAPair : Job → ℕ → List Choice → Type 0
-EarnsAPair job e path = (i j : ℕ) × (i < j) × (j < length job.objects) × Earned job e path (Nodes.Order i j)
+EarnsAPair job e path = (a b : ℕ) × EarnsPair job e path a b
 
 pub record AreForced (job : Job) (e : ℕ) (path : List Choice) (at : Values) (forced : List (ℕ × ℕ)) : Type 0 where
   pub on_path : (i j : ℕ) → i ≢ j → OnPath path i j → CollidesAt job e at i j → ⊥

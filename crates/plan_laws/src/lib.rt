@@ -9,7 +9,7 @@
 #![tactic(auto)]
 
 pub mod audits;
-pub mod inside;
 pub mod looks;
+pub mod points;
 pub mod rows;
 pub mod trees;

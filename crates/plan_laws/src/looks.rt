@@ -2,7 +2,7 @@
 
 ghost use Rattle.std.specs.Prelude.{ℕ, ◌≤◌, List, ◌++◌, length, ◌⊎◌};
 ghost use Rattle.object_orders.specs.Orders.{AreAmong, IsOrder, IsSimpleCycle};
-ghost use Rattle.plan_laws.specs.Looking.{OnPath, AreLooked, AreForced, EarnsAPair, Causes};
+ghost use Rattle.plan_laws.specs.Looking.{OnPath, IsOnOrEarned, AreLooked, AreForced, EarnsAPair, Causes};
 ghost use Rattle.plan_laws.specs.Ordered.{orders_of, plan_of};
 ghost use Rattle.seq_model.specs.Jobs.{scene_of_job};
 ghost use Rattle.seq_model.specs.Scenes.{Valid};
@@ -11,10 +11,15 @@ ghost use Rattle.seq_model.specs.Trees.{IsCycle};
 ghost use Rattle.seq_model.specs.declared.job.Job.{Job};
 ghost use Rattle.seq_model.specs.declared.tree.Choice.{Choice};
 
-/// A cycle of orders that are on a path, or forced at a point of it and unordered on it, runs along the path, or has a pair whose split is
-/// earned.
+/// In a cycle of orders that are on a path, or forced at a point of it and unordered on it, each two neighbours, the last and the first
+/// too, are ordered so on the path, or their split is earned. So it runs along the path, or some pair may be split.
 pub fn a_cycle_closes_or_is_split()
-    ensures { (job : Job) (e : ℕ) (path : List Choice) (at : Values) (orders : List (ℕ × ℕ)) (objects : List ℕ)
+    ensures each { (job : Job) (e : ℕ) (path : List Choice) (at : Values)
+        → (orders : List (ℕ × ℕ)) (objects : List ℕ)
+        → IsOn job e path at → AreAmong (length job.objects) orders → AreLooked job e path at orders
+        → IsSimpleCycle orders objects → IsCycle (IsOnOrEarned job e path) objects }
+    ensures some { (job : Job) (e : ℕ) (path : List Choice) (at : Values)
+        → (orders : List (ℕ × ℕ)) (objects : List ℕ)
         → IsOn job e path at → AreAmong (length job.objects) orders → AreLooked job e path at orders
         → IsSimpleCycle orders objects → IsCycle (OnPath path) objects ⊎ EarnsAPair job e path }
 {}
@@ -25,7 +30,8 @@ pub fn an_order_of_what_is_forced_is_valid()
     ensures causes { (job : Job) (e : ℕ) (path : List Choice) (at : Values) (forced : List (ℕ × ℕ))
         → AreForced job e path at forced
         → Causes (length job.objects) (orders_of path ++ forced) (CollidesAt job e at) }
-    ensures valid { (job : Job) (e : ℕ) (path : List Choice) (at : Values) (orders : List (ℕ × ℕ)) (objects : List ℕ)
+    ensures valid { (job : Job) (e : ℕ) (path : List Choice) (at : Values)
+        → (orders : List (ℕ × ℕ)) (objects : List ℕ)
         → 1 ≤ e → e ≤ job.printer.grid → IsOn job e path at
         → IsOrder (length job.objects) orders objects
         → Causes (length job.objects) orders (CollidesAt job e at)

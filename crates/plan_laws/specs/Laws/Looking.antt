@@ -1,9 +1,11 @@
 -- What follows at a point of a path from the orders that hold there: those of the path, and the forced ones.
 --
---   cycle_earns          a cycle of such orders runs along the path, or has a pair whose split is earned
+--   cycle_earns_each     each two neighbours in a cycle of such orders are ordered on the path, or their split is earned
+--   cycle_earns          so it runs along the path, or some pair's split is earned
 --   looked_causes        what collides at the point is ordered the other way by the path, or forced so
 --   order_is_valid       then an order of all objects that keeps the orders makes a valid plan
-use Rattle.std.proofs.Common.{◌≡◌, ℕ, ◌<◌, ◌≤◌, List, [], ◌∷◌, ◌++◌, AllPairs, Contains, Bool, true, false, length, get_or, refl, sym, ap, subst, ◌∙◌, arith, append_assoc, length-append, inl, inr, ◌⊎◌}
+use Rattle.std.proofs.Common.{◌≡◌, ℕ, ◌<◌, ◌≤◌, List, [], ◌∷◌, ◌++◌, AllPairs, Contains, Bool, true, false, length, take, drop, max, get_or, refl, sym, ap, subst, ◌∙◌, arith, append_assoc, length-append, inl, inr, ◌⊎◌}
+use Rattle.std.proofs.Math.Nat.{min-eq_left, min-eq_right, max-eq_left, max-eq_right}
 use Rattle.std.proofs.lemmas.Bool.{cases_lt}
 use Rattle.std.proofs.lemmas.List.{get_or_default}
 use Rattle.std.proofs.lemmas.List.Elements.{AllZip-push, All-contains, Contains-append_left, Contains-append_right, Contains-get_or}
@@ -13,14 +15,15 @@ use Rattle.integer_laws.specs.Laws.Members.{In-from_contains, Contains-from_in}
 use Rattle.object_orders.specs.Orders.{IsAmong, AreAmong, IsOrder, IsSimpleCycle, EachNext, StandsBefore}
 use Rattle.plan_laws.specs.Ordered.{plan_of, orders_of}
 use Rattle.plan_laws.specs.Laws.Ordered.{orders_hold, one_place, plan_is_valid}
-use Rattle.plan_laws.specs.Looking.{OnPath, IsLooked, AreLooked, AreForced, EarnsAPair, Causes}
+use Rattle.plan_laws.specs.Looking.{OnPath, IsLooked, AreLooked, AreForced, EarnsPair, EarnsAPair, IsOnOrEarned, Causes}
 use Rattle.seq_model.specs.Jobs.{scene_of_job}
 use Rattle.seq_model.specs.Scenes.{Valid}
-use Rattle.seq_model.specs.Splits.{Values, IsOn, CollidesAt, IsUnordered, Precedes, AreNeighbours}
-use Rattle.seq_model.specs.Trees.{IsCycle}
+use Rattle.seq_model.specs.Splits.{Values, IsOn, CollidesAt, IsUnordered, Precedes, AreNeighbours, Earned}
+use Rattle.seq_model.specs.Trees.{IsCycle, IsSoundNode}
 use Rattle.seq_model.specs.declared.job.Job.{Job}
 use Rattle.seq_model.specs.declared.tree.Choice.{Choice}
 use Rattle.seq_model.specs.declared.tree.Choice.TheVariants as Choices
+use Rattle.seq_model.specs.declared.tree.Node.TheVariants as Nodes
 
 -- ---- cycles
 turned : (R : ℕ → ℕ → Type 0) (x : ℕ) (xs : List ℕ) → IsCycle R (x ∷ xs) → IsCycle R (xs ++ x ∷ [])
@@ -37,54 +40,63 @@ zip_weaker R S w [] (y ∷ ys) z = absurd z
 zip_weaker R S w (x ∷ xs) [] z = absurd z
 zip_weaker R S w (x ∷ xs) (y ∷ ys) z = (w x y z.0, zip_weaker R S w xs ys z.1)
 
--- each pair of neighbours is either On or Off: all are On, or a pair is Off, with which the cycle may begin
-abbrev Beginning : (ℕ → ℕ → Type 0) → (ℕ → ℕ → Type 0) → Type 0
-Beginning R Off = (a b : ℕ) × Off a b × ((others : List ℕ) × IsCycle R (a ∷ b ∷ others))
+-- each pair of neighbours begins the cycle, turned: what then holds of it holds of each
+abbrev Begins : (ℕ → ℕ → Type 0) → ℕ → ℕ → Type 0
+Begins R a b = (others : List ℕ) × IsCycle R (a ∷ b ∷ others)
 
-scan : (R On Off : ℕ → ℕ → Type 0) (x : ℕ) (xs : List ℕ) (y : ℕ) (front : List ℕ) → IsCycle R (x ∷ xs ++ y ∷ front) → AllZip (λ a b. On a b ⊎ Off a b) (x ∷ xs) (xs ++ y ∷ [])
-    → AllZip On (x ∷ xs) (xs ++ y ∷ []) ⊎ Beginning R Off
-scan R On Off x [] y front c z = by z.0
-  where
-    by : On x y ⊎ Off x y → AllZip On (x ∷ []) (y ∷ []) ⊎ Beginning R Off
-    by (inl on) = inl (on, tt)
-    by (inr off) = inr (x, y, off, (front, c))
-scan R On Off x (w ∷ ws) y front c z =
-    by z.0 (scan R On Off w ws y (front ++ x ∷ []) (subst (IsCycle R) (ap (λ t. w ∷ t) (append_assoc ws (y ∷ front) (x ∷ []))) (turned R x (w ∷ ws ++ y ∷ front) c)) z.1)
-  where
-    by : On x w ⊎ Off x w → AllZip On (w ∷ ws) (ws ++ y ∷ []) ⊎ Beginning R Off → AllZip On (x ∷ w ∷ ws) (w ∷ ws ++ y ∷ []) ⊎ Beginning R Off
-    by (inr off) rest = inr (x, w, off, (ws ++ y ∷ front, c))
-    by (inl on) (inl all) = inl (on, all)
-    by (inl on) (inr b) = inr b
+around : (R P Q : ℕ → ℕ → Type 0) → ((a b : ℕ) → P a b → Begins R a b → Q a b) → (x : ℕ) (xs : List ℕ) (y : ℕ) (front : List ℕ) → IsCycle R (x ∷ xs ++ y ∷ front)
+    → AllZip P (x ∷ xs) (xs ++ y ∷ []) → AllZip Q (x ∷ xs) (xs ++ y ∷ [])
+around R P Q w x [] y front c z = (w x y z.0 (front, c), tt)
+around R P Q w x (v ∷ vs) y front c z = (
+  w x v z.0 (vs ++ y ∷ front, c),
+  around R P Q w v vs y (front ++ x ∷ []) (subst (IsCycle R) (ap (λ t. v ∷ t) (append_assoc vs (y ∷ front) (x ∷ []))) (turned R x (v ∷ vs ++ y ∷ front) c)) z.1,
+)
 
-round : (R On Off : ℕ → ℕ → Type 0) (objects : List ℕ) → IsCycle R objects → IsCycle (λ a b. On a b ⊎ Off a b) objects → IsCycle On objects ⊎ Beginning R Off
-round R On Off [] c p = absurd (omega (arith, c.0))
-round R On Off (x ∷ []) c p = absurd (omega (arith, c.0))
-round R On Off (x ∷ y ∷ ys) c p = by p.1.0 (scan R On Off y ys x [] (turned R x (y ∷ ys) c) p.1.1)
+all_around : (R P Q : ℕ → ℕ → Type 0) → ((a b : ℕ) → P a b → Begins R a b → Q a b) → (objects : List ℕ) → IsCycle R objects → IsCycle P objects → IsCycle Q objects
+all_around R P Q w [] c p = absurd (omega (arith, c.0))
+all_around R P Q w (x ∷ []) c p = absurd (omega (arith, c.0))
+all_around R P Q w (x ∷ y ∷ ys) c p = (c.0, (w x y p.1.0 (ys, c), around R P Q w y ys x [] (turned R x (y ∷ ys) c) p.1.1))
+
+-- all of them are the one, or one of them is the other
+all_or_some : (P Q : ℕ → ℕ → Type 0) (xs ys : List ℕ) → AllZip (λ a b. P a b ⊎ Q a b) xs ys → AllZip P xs ys ⊎ ((a b : ℕ) × Q a b)
+all_or_some P Q [] [] z = inl tt
+all_or_some P Q [] (y ∷ ys) z = absurd z
+all_or_some P Q (x ∷ xs) [] z = absurd z
+all_or_some P Q (x ∷ xs) (y ∷ ys) z = by z.0 (all_or_some P Q xs ys z.1)
   where
-    by : On x y ⊎ Off x y → AllZip On (y ∷ ys) (ys ++ x ∷ []) ⊎ Beginning R Off → IsCycle On (x ∷ y ∷ ys) ⊎ Beginning R Off
-    by (inr off) rest = inr (x, y, off, (ys, c))
-    by (inl on) (inl all) = inl (c.0, (on, all))
-    by (inl on) (inr b) = inr b
+    by : P x y ⊎ Q x y → AllZip P xs ys ⊎ ((a b : ℕ) × Q a b) → AllZip P (x ∷ xs) (y ∷ ys) ⊎ ((a b : ℕ) × Q a b)
+    by (inr q) rest = inr (x, y, q)
+    by (inl p) (inl all) = inl (p, all)
+    by (inl p) (inr some) = inr some
 
 -- ---- what is earned
 abbrev Off : Job → List Choice → ℕ → ℕ → Type 0
 Off job path a b = IsAmong (length job.objects) (a, b) × IsUnordered path a b
 
-earns : (job : Job) (e : ℕ) (path : List Choice) (at : Values) → IsOn job e path at → (a b : ℕ) → Off job path a b → AreNeighbours job e path at a b → EarnsAPair job e path
+earns : (job : Job) (e : ℕ) (path : List Choice) (at : Values) → IsOn job e path at → (a b : ℕ) → Off job path a b → AreNeighbours job e path at a b → EarnsPair job e path a b
 earns job e path at on a b off n = by (cases_lt a b)
   where
     among : IsAmong (length job.objects) (a, b)
     among = off.0
 
-    by : (a < b) ⊎ (b ≤ a) → EarnsAPair job e path
-    by (inl l) = (a, b, l, among.1, (off.1, record { at = at; on = on; here = inr (inl n) }))
-    by (inr l) = (b, a, omega (arith, l, among.2), among.0, ((off.1.1, off.1.0), record { at = at; on = on; here = inr (inr n) }))
+    Earns : ℕ → ℕ → Type 0
+    Earns i j = IsSoundNode job e path (Nodes.Order i j) × Earned job e path (Nodes.Order i j)
 
--- a cycle of the orders that hold at a point: it runs along the path, or two neighbours of it may be split
-pub cycle_earns : (job : Job) (e : ℕ) (path : List Choice) (at : Values) (orders : List (ℕ × ℕ)) (objects : List ℕ) → IsOn job e path at → AreAmong (length job.objects) orders
-    → AreLooked job e path at orders → IsSimpleCycle orders objects → IsCycle (OnPath path) objects ⊎ EarnsAPair job e path
-cycle_earns job e path at orders [] on among looked c = absurd (omega (arith, c.some))
-cycle_earns job e path at orders (x ∷ xs) on among looked c = by (round (Precedes job e path at) (OnPath path) (Off job path) (x ∷ xs) cycle parts)
+    by : (a < b) ⊎ (b ≤ a) → EarnsPair job e path a b
+    by (inl l) =
+        let h : a ≤ b = omega (arith, l) in
+        let is : Earns a b = ((l, among.1), (off.1, record { at = at; on = on; here = inr (inl n) })) in
+        subst (λ i. Earns i (max a b)) (sym (min-eq_left h)) (subst (λ j. Earns a j) (sym (max-eq_right h)) is)
+    by (inr h) =
+        let is : Earns b a = ((omega (arith, h, among.2), among.0), ((off.1.1, off.1.0), record { at = at; on = on; here = inr (inr n) })) in
+        subst (λ i. Earns i (max a b)) (sym (min-eq_right h)) (subst (λ j. Earns b j) (sym (max-eq_left h)) is)
+
+-- each two neighbours in a cycle of the orders that hold at a point are ordered on the path, or may be split
+pub cycle_earns_each : (job : Job) (e : ℕ) (path : List Choice) (at : Values) (orders : List (ℕ × ℕ)) (objects : List ℕ) → IsOn job e path at → AreAmong (length job.objects) orders
+    → AreLooked job e path at orders → IsSimpleCycle orders objects → IsCycle (IsOnOrEarned job e path) objects
+cycle_earns_each job e path at orders [] on among looked c = absurd (omega (arith, c.some))
+cycle_earns_each job e path at orders (x ∷ xs) on among looked c =
+    all_around (Precedes job e path at) (λ a b. OnPath path a b ⊎ Off job path a b) (IsOnOrEarned job e path) earned (x ∷ xs) cycle parts
   where
     zip : AllZip (λ a b. Contains orders (a, b)) (x ∷ xs) (xs ++ x ∷ [])
     zip = zip_of (λ a b. Contains orders (a, b)) x xs x c.round
@@ -103,9 +115,19 @@ cycle_earns job e path at orders (x ∷ xs) on among looked c = by (round (Prece
     parts : IsCycle (λ a b. OnPath path a b ⊎ Off job path a b) (x ∷ xs)
     parts = (c.some, zip_weaker (λ a b. Contains orders (a, b)) (λ a b. OnPath path a b ⊎ Off job path a b) (λ a b h. part a b h (looked a b h)) (x ∷ xs) (xs ++ x ∷ []) zip)
 
-    by : IsCycle (OnPath path) (x ∷ xs) ⊎ Beginning (Precedes job e path at) (Off job path) → IsCycle (OnPath path) (x ∷ xs) ⊎ EarnsAPair job e path
-    by (inl all) = inl all
-    by (inr b) = inr (earns job e path at on b.0 b.1 b.2 b.3)
+    earned : (a b : ℕ) → OnPath path a b ⊎ Off job path a b → Begins (Precedes job e path at) a b → IsOnOrEarned job e path a b
+    earned a b (inl on) begins = inl on
+    earned a b (inr off) begins = inr (earns job e path at on a b off begins)
+
+-- so it runs along the path, or some two of it may be split
+pub cycle_earns : (job : Job) (e : ℕ) (path : List Choice) (at : Values) (orders : List (ℕ × ℕ)) (objects : List ℕ) → IsOn job e path at → AreAmong (length job.objects) orders
+    → AreLooked job e path at orders → IsSimpleCycle orders objects → IsCycle (OnPath path) objects ⊎ EarnsAPair job e path
+cycle_earns job e path at orders objects on among looked c =
+    by (all_or_some (OnPath path) (EarnsPair job e path) objects (drop 1 objects ++ take 1 objects) (cycle_earns_each job e path at orders objects on among looked c).1)
+  where
+    by : AllZip (OnPath path) objects (drop 1 objects ++ take 1 objects) ⊎ EarnsAPair job e path → IsCycle (OnPath path) objects ⊎ EarnsAPair job e path
+    by (inl all) = inl (c.some, all)
+    by (inr some) = inr some
 
 -- ---- an order
 pub looked_causes : (job : Job) (e : ℕ) (path : List Choice) (at : Values) (forced : List (ℕ × ℕ)) → AreForced job e path at forced
