@@ -3,12 +3,12 @@
 --   IsUnused x n mults       the multipliers don't take row n, if x is a side
 --   IsFreeOf x n node        the node doesn't use the choice x, whose row is n if it is a side: told by the node alone
 --   IsFreeTree job e front x back nodes   the tree refutes front ++ x ∷ back, and each of its nodes is free of x
---   move f m                 the multiplier takes row f r in place of row r
 --   lowered n r              r, one lower if it is above n
 --   dropped_mults x n mults  the multipliers with the rows behind n one lower, if x is a side
 --   dropped_node x n node    the node with its multipliers so
 use Rattle.std.specs.Prelude.{◌≡◌, ℕ, ◌-◌, List, ◌∷◌, ◌++◌, All, length, map, take, drop, nat_lt, if◌then◌else◌}
 use Rattle.std.specs.List.{AllZip}
+use Rattle.plan_laws.specs.Renumbered.{move}
 use Rattle.seq_model.specs.Systems.{system}
 use Rattle.seq_model.specs.Trees.{IsSoundNode, IsClosed, IsTree}
 use Rattle.seq_model.specs.declared.job.Job.{Job}
@@ -32,9 +32,6 @@ IsFreeOf x n Nodes.Pending = Unit {0}
 abbrev pub IsFreeTree : Job → ℕ → List Choice → Choice → List Choice → List Node → Type 0
 IsFreeTree job e front x back nodes =
     IsTree job (λ path node. (IsSoundNode job e path node × IsClosed node) × IsFreeOf x (length (system job e front)) node) (front ++ x ∷ back) nodes
-
-abbrev pub move : (ℕ → ℕ) → Mult → Mult
-move f m = record m { row = f m.row }
 
 abbrev pub lowered : ℕ → ℕ → ℕ
 lowered n r = if nat_lt n r then r - 1 else r

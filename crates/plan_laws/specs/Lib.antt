@@ -5,4 +5,5 @@ pub mod Inside
 pub mod Looking
 pub mod Members
 pub mod Ordered
+pub mod Renumbered
 pub mod Laws

@@ -23,7 +23,8 @@ pub fn a_system_has_a_row_for_each_bound_and_side()
 pub fn a_side_row_is_met_beyond_the_side()
     ensures { (job : Job) (e : ℕ) (d : ℤ) (u : List ℤ) (contact : Contact) (dir : Dir)
         → IsContact job contact → length u ≡ 2 * length job.objects
-        → (pos 0 ≤ℤ row_value d u (side_row job e contact dir)) ↔ Beyond (points_of job contact) dir (gap_at job e d u contact) }
+        → (pos 0 ≤ℤ row_value d u (side_row job e contact dir))
+        ↔ Beyond (points_of job contact) dir (gap_at job e d u contact) }
 {}
 
 /// The points of a path are those of its choices, in whatever order they stand: so a point of a path is one of each path that has only

@@ -5,8 +5,9 @@
 --   without_side              and do so on the path without a side whose row they don't take
 use Rattle.std.proofs.Common.{◌≡◌, ℕ, suc, ◌+◌, ◌-◌, ◌<◌, ◌≤◌, ◌≤ℤ◌, ◌<ℤ◌, pos, ◌+ℤ◌, ◌*ℤ◌, cond, List, [], ◌∷◌, ◌++◌, All, length, map, get_or, refl, sym, ap, subst, ◌∙◌, arith, length-append, append_assoc, inl, inr, ◌⊎◌}
 use Rattle.integer_laws.specs.Vectors.{plus, scale}
-use Rattle.plan_laws.specs.Dropping.{move, lowered}
+use Rattle.plan_laws.specs.Dropping.{lowered}
 use Rattle.plan_laws.specs.Laws.PathRows.{side_rows-append}
+use Rattle.plan_laws.specs.Renumbered.{move}
 use Rattle.seq_model.specs.declared.row.Row.{Row}
 use Rattle.seq_model.specs.Systems.{no_row, row_at, sum_constant, sum_coefficients, IsTaken, Contradiction, system, side_rows, side_row, bounds_of}
 use Rattle.seq_model.specs.declared.job.Job.{Job}

@@ -2,6 +2,7 @@
 --
 --   plan_is_valid                such a point makes a valid plan
 --   point_of_plan                and a valid plan such a point
+--   plan_again                   whose plan it is again
 --   plans_are_points             both ways
 --   rank_in objects o            how many stand before o in the order
 --   point_keeps, point_is_clear  by these ranks such a point keeps the path's orders, and is clear
@@ -17,10 +18,10 @@ use Rattle.integer_laws.specs.Laws.Members.{In-from_contains, Contains-from_in, 
 use Rattle.object_orders.specs.Orders.{IsOrder, StandsBefore}
 use Rattle.plan_laws.specs.Inside.{place_at, IsInside, IsBounded}
 use Rattle.plan_laws.specs.Laws.Inside.{inside_where_bounded}
-use Rattle.plan_laws.specs.Laws.PlanPoints.{no_place, same_number, values_of, rank_for, valid_stands, on_of_plan, clear_of_plan}
+use Rattle.plan_laws.specs.Laws.PlanPoints.{no_place, same_number, values_of, place_for, rank_for, place_again, valid_stands, on_of_plan, clear_of_plan}
 use Rattle.plan_laws.specs.Ordered.{Keeps, IsClear, plan_of, AreApart, orders_of, OrderedPoint}
 use Rattle.seq_model.specs.Jobs.{scene_of_job}
-use Rattle.seq_model.specs.Points.{place_point}
+use Rattle.seq_model.specs.Points.{Point, place_point}
 use Rattle.seq_model.specs.Scenes.{Collides, Valid}
 use Rattle.seq_model.specs.Splits.{Values, IsOn, CollidesAt}
 use Rattle.seq_model.specs.Systems.{bounds_of, side_rows, row_value}
@@ -280,6 +281,33 @@ point_of_plan job e plan valid = record {
         let moved : CollidesAt job e (values_of job e plan) a b =
         subst (λ k. CollidesAt job e (values_of job e plan) k b) (object_of i d il) (subst (λ k. CollidesAt job e (values_of job e plan) (get_or (objects_in plan) i d) k) (object_of j d jl) hits) in
         (clear_of_plan job e plan valid).clear a b (is_known i il) (is_known j jl) (omega (arith, first, second, l)) moved
+
+-- the places at this point, in this order, are those of the plan
+places_back : (f : ℕ → Place) (places : List Place) → ((p : Place) → In p places → f p.object ≡ p) → map f (map (λ (p : Place). p.object) places) ≡ places
+places_back f [] same = refl
+places_back f (p ∷ places) same = ap (λ q. q ∷ map f (map (λ (r : Place). r.object) places)) (same p (inl refl)) ∙ ap (λ rest. p ∷ rest) (places_back f places (λ q i. same q (inr i)))
+
+place_back : (job : Job) (e : ℕ) (plan : Plan) → Valid (scene_of_job job) e plan → (p : Place) → In p plan.places
+    → place_at job e (values_of job e plan).d (values_of job e plan).u p.object ≡ p
+place_back job e plan valid p i =
+    let c = Contains-from_in plan.places p i in
+    let here : get_or plan.places c.0 no_place ≡ p = get_or_default plan.places c.0 no_place p c.1 ∙ c.2 in
+    let known = All-in (λ (p : Place). p.object < length job.objects) plan.places p valid.known i in
+    let rank = only_place plan.places c.0 p.object no_place (valid.once p.object known) c.1 (ap (λ (q : Place). q.object) here) in
+    let s = valid_stands job e plan valid p.object known in
+    let found : place_for plan.places p.object ≡ p = sym (s.there no_place) ∙ (ap (λ r. get_or plan.places r no_place) (sym rank) ∙ here) in
+    ap (stand p.object) (place_again job e plan p.object known) ∙ ap (λ q. stand p.object (place_point plan.scale q)) found
+  where
+    stand : ℕ → Point → Place
+    stand o q = record { object = o; x = q.x; y = q.y }
+
+pub plan_again : (job : Job) (e : ℕ) (plan : Plan) (valid : Valid (scene_of_job job) e plan) → plan_of job e (point_of_plan job e plan valid).at (point_of_plan job e plan valid).objects ≡ plan
+unfolding point_of_plan
+plan_again job e plan valid =
+    ap with_places (places_back (place_at job e (values_of job e plan).d (values_of job e plan).u) plan.places (place_back job e plan valid))
+  where
+    with_places : List Place → Plan
+    with_places places = record { scale = plan.scale; places = places }
 
 -- what is valid at an extent, and what points with orders there are
 pub plans_are_points : (job : Job) (e : ℕ) → 1 ≤ e → e ≤ job.printer.grid → ((plan : Plan) × Valid (scene_of_job job) e plan) ↔ OrderedPoint job e []

@@ -1,18 +1,18 @@
 -- A tree that refutes a path serves each path that has its choices, with the rows of its bounds renumbered.
 --
 --   contradiction_on_part   a bound of a path, on each path that has its choices
---   pasted                  so a tree for the one makes a tree for the other, with as many nodes
-use Rattle.std.proofs.Common.{◌≡◌, ℕ, suc, ◌<◌, ◌≤◌, List, [], ◌∷◌, ◌++◌, All, Contains, length, map, refl, sym, ap, subst, ◌∙◌, arith, inl, inr, ◌⊎◌}
+--   pasted                  so a tree for the one makes a tree for the other, node for node
+use Rattle.std.proofs.Common.{◌≡◌, ℕ, ◌<◌, ◌≤◌, List, [], ◌∷◌, ◌++◌, All, Contains, length, map, refl, sym, ap, subst, ◌∙◌, arith, inl, inr, ◌⊎◌}
 use Rattle.std.proofs.lemmas.Bool.{cases_lt}
 use Rattle.std.proofs.lemmas.List.{get_or_default}
 use Rattle.std.proofs.lemmas.List.Elements.{All-nil, All-cons, All-head, All-tail, Contains-append_left, Contains-push, Contains-push_cases, Contains-get_or}
 use Rattle.std.specs.List.{AllZip}
-use Rattle.plan_laws.specs.Dropping.{move}
 use Rattle.plan_laws.specs.Laws.Moved.{IsSameRow, moved}
 use Rattle.integer_laws.specs.Members.{In}
 use Rattle.integer_laws.specs.Laws.Members.{In-from_contains, Contains-from_in, In-append_left, In-append_right, In-append_cases}
 use Rattle.plan_laws.specs.Members.{IsPart}
 use Rattle.plan_laws.specs.Laws.PathRows.{row_in}
+use Rattle.plan_laws.specs.Renumbered.{move, IsRenumbered}
 use Rattle.seq_model.specs.declared.row.Row.{Row}
 use Rattle.seq_model.specs.Systems.{no_row, row_at, bounds_of, side_row, side_rows, system, IsTaken, Contradiction}
 use Rattle.seq_model.specs.Trees.{also, AreChildren, IsSoundNode, IsClosed, Reads, Refutes}
@@ -44,8 +44,8 @@ is_there rows more among r (inl l) h =
     (c.1, get_or_default more c.0 no_row (row_at rows r) c.1 ∙ c.2)
 is_there rows more among r (inr l) h = absurd (omega (arith, l, h))
 
-contradicts_among : (rows more : List Row) (mults : List Mult) → Among rows more → Contradiction rows mults → (others : List Mult) × Contradiction more others
-contradicts_among rows more mults among c = (map (move f) mults, moved rows more f mults (same mults c.each) c)
+contradicts_among : (rows more : List Row) (mults : List Mult) → Among rows more → Contradiction rows mults → (f : ℕ → ℕ) × Contradiction more (map (move f) mults)
+contradicts_among rows more mults among c = (f, moved rows more f mults (same mults c.each) c)
   where
     f : ℕ → ℕ
     f r = where_is rows more among r (cases_lt r (length rows))
@@ -72,7 +72,7 @@ rows_among job e part path is row i = by (In-append_cases (bounds_of job e 0 job
         let k = In-from_contains path (Choices.Side s.0 s.1) (is (Choices.Side s.0 s.1) (Contains-from_in part (Choices.Side s.0 s.1) s.2)) in
         In-append_right (bounds_of job e 0 job.objects) (side_rows job e path) row (subst (λ r. In r (side_rows job e path)) (sym s.3) (row_in job e path s.0 s.1 k))
 
-pub contradiction_on_part : (job : Job) (e : ℕ) (part path : List Choice) (mults : List Mult) → IsPart part path → Contradiction (system job e part) mults → (others : List Mult) × Contradiction (system job e path) others
+pub contradiction_on_part : (job : Job) (e : ℕ) (part path : List Choice) (mults : List Mult) → IsPart part path → Contradiction (system job e part) mults → (f : ℕ → ℕ) × Contradiction (system job e path) (map (move f) mults)
 contradiction_on_part job e part path mults is c = contradicts_among (system job e part) (system job e path) mults (rows_among job e part path is) c
 
 -- ---- trees
@@ -99,23 +99,25 @@ zip_cycle part path is [] (y ∷ ys) z = absurd z
 zip_cycle part path is (x ∷ xs) [] z = absurd z
 zip_cycle part path is (x ∷ xs) (y ∷ ys) z = (is (Choices.Before x y) z.0, zip_cycle part path is xs ys z.1)
 
-record Serves (job : Job) (e : ℕ) (path : List Choice) (parts : List (List Choice)) : Type 0 where
+record Serves (job : Job) (e : ℕ) (path : List Choice) (old : Node) (parts : List (List Choice)) : Type 0 where
   node : Node
+  same : IsRenumbered old node
   paths : List (List Choice)
   sound : IsSoundNode job e path node
   closed : IsClosed node
   children : AreChildren job path node paths
   longer : AllZip IsPart parts paths
 
-serves : (job : Job) (e : ℕ) (part path : List Choice) (node : Node) (parts : List (List Choice)) → IsPart part path → IsSoundNode job e part node → IsClosed node → AreChildren job part node parts → Serves job e path parts
+serves : (job : Job) (e : ℕ) (part path : List Choice) (node : Node) (parts : List (List Choice)) → IsPart part path → IsSoundNode job e part node → IsClosed node → AreChildren job part node parts → Serves job e path node parts
 serves job e part path (Nodes.Bound mults) parts is sound closed children =
     let c = contradiction_on_part job e part path mults is sound in
-    record { node = Nodes.Bound c.0; paths = []; sound = c.1; closed = tt; children = refl; longer = subst (λ ps. AllZip IsPart ps []) (sym children) tt }
+    record { node = Nodes.Bound (map (move c.0) mults); same = (c.0, refl); paths = []; sound = c.1; closed = tt; children = refl; longer = subst (λ ps. AllZip IsPart ps []) (sym children) tt }
 serves job e part path (Nodes.Cycle objects) parts is sound closed children =
-    record { node = Nodes.Cycle objects; paths = []; sound = (sound.0, zip_cycle part path is objects _ sound.1); closed = tt; children = refl; longer = subst (λ ps. AllZip IsPart ps []) (sym children) tt }
+    record { node = Nodes.Cycle objects; same = refl; paths = []; sound = (sound.0, zip_cycle part path is objects _ sound.1); closed = tt; children = refl; longer = subst (λ ps. AllZip IsPart ps []) (sym children) tt }
 serves job e part path (Nodes.Order i j) parts is sound closed children =
     record {
       node = Nodes.Order i j;
+      same = refl;
       paths = also path (Choices.Before i j) ∷ also path (Choices.Before j i) ∷ [];
       sound = sound;
       closed = tt;
@@ -125,6 +127,7 @@ serves job e part path (Nodes.Order i j) parts is sound closed children =
 serves job e part path (Nodes.Side contact count) parts is sound closed children =
     record {
       node = Nodes.Side contact count;
+      same = refl;
       paths = map (λ dir. also path (Choices.Side contact dir)) children.0;
       sound = (sound.0, is (Choices.Before contact.i contact.j) sound.1);
       closed = tt;
@@ -137,8 +140,8 @@ abbrev Good : Job → ℕ → List Choice → Node → Type 0
 Good job e path node = IsSoundNode job e path node × IsClosed node
 
 paste : (job : Job) (e : ℕ) (nodes : List Node) (todo more : List (List Choice)) → AllZip IsPart todo more → Reads job (Good job e) todo nodes []
-    → (others : List Node) × Reads job (Good job e) more others [] × (length others ≡ length nodes)
-paste job e [] todo more z r = ([], none todo more z r, refl)
+    → (others : List Node) × Reads job (Good job e) more others [] × AllZip IsRenumbered nodes others
+paste job e [] todo more z r = ([], none todo more z r, tt)
   where
     none : (todo more : List (List Choice)) → AllZip IsPart todo more → todo ≡ [] → more ≡ []
     none [] [] z r = refl
@@ -149,7 +152,7 @@ paste job e (node ∷ nodes) (p ∷ todo) [] z r = absurd z
 paste job e (node ∷ nodes) (p ∷ todo) (q ∷ more) z r =
     let s = serves job e p q node r.1 z.0 r.0.0 r.0.1 r.2 in
     let rest = paste job e nodes (r.1 ++ todo) (s.paths ++ more) (zip_append r.1 s.paths todo more s.longer z.1) r.3 in
-    (s.node ∷ rest.0, ((s.sound, s.closed), s.paths, s.children, rest.1), ap (λ n. suc n) rest.2)
+    (s.node ∷ rest.0, ((s.sound, s.closed), s.paths, s.children, rest.1), (s.same, rest.2))
 
-pub pasted : (job : Job) (e : ℕ) (part path : List Choice) (nodes : List Node) → IsPart part path → Refutes job e part nodes → (others : List Node) × Refutes job e path others × (length others ≡ length nodes)
+pub pasted : (job : Job) (e : ℕ) (part path : List Choice) (nodes : List Node) → IsPart part path → Refutes job e part nodes → (others : List Node) × Refutes job e path others × AllZip IsRenumbered nodes others
 pasted job e part path nodes is r = paste job e nodes (part ∷ []) (path ∷ []) (is, tt) r
