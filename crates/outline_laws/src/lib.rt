@@ -40,18 +40,20 @@ pub fn no_three_corners_on_a_line()
 
 /// In a list with area, whatever else it holds, a point is inner exactly where it is beyond no side.
 pub fn a_point_is_inner_exactly_where_it_is_beyond_no_side()
-    ensures { (spots : List Spot) (q : Point) → HasArea spots → IsPoint q → Inner spots q ↔ BeyondNoSide spots q }
+    ensures { (spots : List Spot) (q : Point) → HasArea spots → IsPoint q
+        → Inner spots q ↔ BeyondNoSide spots q }
 {}
 
 /// What lies to the left of each edge of an outline with area, and that alone, is a mean of all corners with positive weights.
 pub fn a_point_is_inner_to_corners_exactly_where_it_is_left_of_each_edge()
-    ensures { (corners : List Spot) (q : Point) → AreCorners corners → 3 ≤ length corners → IsPoint q
-        → Inner corners q ↔ IsLeftOfEachEdge corners q }
+    ensures { (corners : List Spot) (q : Point) → AreCorners corners → 3 ≤ length corners
+        → IsPoint q → Inner corners q ↔ IsLeftOfEachEdge corners q }
 {}
 
 /// The sides of an outline are the outward directions of its edges: of an area, of a segment both ways, of a point none.
 pub fn sides_are_the_directions_of_edges()
-    ensures { (corners : List Spot) (dir : Dir) → AreCorners corners → Side corners dir ↔ Across (edges_of corners) dir }
+    ensures { (corners : List Spot) (dir : Dir) → AreCorners corners
+        → Side corners dir ↔ Across (edges_of corners) dir }
 {}
 
 /// A side of a difference is a side of the first list, or its opposite is one of the second or of the third, and nothing else is.
@@ -69,7 +71,8 @@ pub fn greatest_values_of_a_difference_add_up()
 
 /// A difference has area where its first list has.
 pub fn a_difference_has_area_where_its_first_list_has()
-    ensures { (A B F : List Spot) → 1 ≤ length B → 1 ≤ length F → HasArea A → HasArea (difference A B F) }
+    ensures { (A B F : List Spot) → 1 ≤ length B → 1 ≤ length F → HasArea A
+        → HasArea (difference A B F) }
 {}
 
 /// An outline at p, and another at r spread by a third, share a point exactly where r less p is inner to their difference.

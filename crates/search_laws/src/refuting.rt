@@ -19,10 +19,12 @@ ghost use Rattle.seq_model.specs.declared.tree.Tree.{Tree};
 pub fn a_refuted_path_has_no_clear_point()
     ensures ordered { (job : Job) (e : ℕ) (path : List Choice) (nodes : List Node)
         → Refutes job e path nodes → OrderedPoint job e path → ⊥ }
-    ensures ranked { (job : Job) (e : ℕ) (path : List Choice) (nodes : List Node) (at : Values) (rank : ℕ → ℕ)
+    ensures ranked { (job : Job) (e : ℕ) (path : List Choice) (nodes : List Node)
+        → (at : Values) (rank : ℕ → ℕ)
         → Refutes job e path nodes → IsOn job e path at → Keeps path rank → IsClear job e at rank
         → ⊥ }
-    ensures longer { (job : Job) (e : ℕ) (part path : List Choice) (nodes : List Node) (at : Values) (rank : ℕ → ℕ)
+    ensures longer { (job : Job) (e : ℕ) (part path : List Choice) (nodes : List Node)
+        → (at : Values) (rank : ℕ → ℕ)
         → IsPart part path → Refutes job e part nodes → IsOn job e path at → Keeps path rank
         → IsClear job e at rank → ⊥ }
 {}

@@ -2,6 +2,7 @@
 
 ghost use Rattle.std.specs.Prelude.{◌≡◌, ◌≢◌, ℕ, ◌≤◌, pos, ◌≤ℤ◌, List, Contains, ◌↔◌};
 ghost use Rattle.integer_laws.specs.Members.{In};
+ghost use Rattle.outline_laws.specs.Corners.{HasArea};
 ghost use Rattle.plan_laws.specs.Gaps.{gap_at};
 ghost use Rattle.search_laws.specs.Covering.{AreEnough};
 ghost use Rattle.seq_model.specs.Budgets.{HasSides, IsMostSides, Full};
@@ -10,7 +11,7 @@ ghost use Rattle.seq_model.specs.Jobs.{scene_of_job};
 ghost use Rattle.seq_model.specs.Outlines.{Inner};
 ghost use Rattle.seq_model.specs.Points.{Point, IsPoint};
 ghost use Rattle.seq_model.specs.Scenes.{Collides};
-ghost use Rattle.seq_model.specs.Sides.{AreSides};
+ghost use Rattle.seq_model.specs.Sides.{AreSides, Beyond};
 ghost use Rattle.seq_model.specs.Splits.{Values, IsOn, ContactCollidesAt};
 ghost use Rattle.seq_model.specs.Trees.{IsPath};
 ghost use Rattle.seq_model.specs.declared.job.Job.{Job};
@@ -27,10 +28,21 @@ pub fn a_contact_has_sides()
     ensures few { (job : Job) (contact : Contact) (n : ℕ) → HasSides job contact n → n ≤ 8_008_036 }
 {}
 
+/// A contact's difference has area; and a point that isn't inner to it is beyond one of the listed sides, which a refutation goes on to.
+pub fn a_point_that_is_not_inner_is_beyond_a_side()
+    ensures area { (job : Job) (contact : Contact) → IsContact job contact
+        → HasArea (points_of job contact) }
+    ensures side { (job : Job) (contact : Contact) (dirs : List Dir) (q : Point)
+        → IsContact job contact → AreSides (points_of job contact) dirs → IsPoint q
+        → (Inner (points_of job contact) q → ⊥)
+        → (dir : Dir) × Contains dirs dir × Beyond (points_of job contact) dir q }
+{}
+
 /// A contact collides at a point just where the later place less the earlier one is inner to the contact's difference.
 pub fn a_contact_collides_where_its_gap_is_inner()
     ensures { (job : Job) (e : ℕ) (at : Values) (contact : Contact) → pos 1 ≤ℤ at.d
-        → ContactCollidesAt job e at contact ↔ (IsContact job contact × Inner (points_of job contact) (gap_at job e at.d at.u contact)) }
+        → ContactCollidesAt job e at contact
+        ↔ (IsContact job contact × Inner (points_of job contact) (gap_at job e at.d at.u contact)) }
 {}
 
 /// It is enough to look at contacts that cover the others of the same two objects in the same order: where none of these collides at two

@@ -3,15 +3,15 @@
 --   outlines_of, area_of_contact   the difference of a contact is of three outlines, and has area
 --   gap_is_inner            a contact collides at a point just where the gap is inner to its difference
 --   beyond_is_clear         so it doesn't where the gap is beyond a side
---   some_beyond             and where it doesn't, the gap is beyond one of the sides
-use Rattle.std.proofs.Common.{◌≡◌, ◌<◌, ◌^◌, All, ℕ, ◌≤◌, List, [], ◌∷◌, length, refl, subst, arith, ℤ, pos, ◌+ℤ◌, ◌-ℤ◌, ◌*ℤ◌, ◌≤ℤ◌, ◌<ℤ◌, ◌↔◌, ◌⊎◌, inl, inr}
+--   some_beyond, listed_beyond     and a point that isn't inner is beyond one of the sides
+use Rattle.std.proofs.Common.{◌≡◌, ◌<◌, ◌^◌, All, Contains, ℕ, ◌≤◌, List, [], ◌∷◌, length, refl, subst, arith, ℤ, pos, ◌+ℤ◌, ◌-ℤ◌, ◌*ℤ◌, ◌≤ℤ◌, ◌<ℤ◌, ◌↔◌, ◌⊎◌, inl, inr}
 use Rattle.std.proofs.lemmas.Int.{ints, by_lt_z}
 use Rattle.std.proofs.lemmas.List.Elements.{All-get_or, All-weaker}
 use Rattle.outline_laws.specs.Corners.{HasArea, IsNarrow}
 use Rattle.outline_laws.specs.Outlines.{AreOutlines}
 use Rattle.outline_laws.specs.Laws.Differences.{area_of_difference}
 use Rattle.integer_laws.specs.Members.{In}
-use Rattle.integer_laws.specs.Laws.Members.{In-from_contains}
+use Rattle.integer_laws.specs.Laws.Members.{In-from_contains, Contains-from_in}
 use Rattle.integer_laws.specs.Laws.Ring.{expand}
 use Rattle.model_laws.specs.Laws.SamePoints.{mean_of_same, minus_is_point}
 use Rattle.model_laws.specs.Laws.Turning.{left_by_list}
@@ -114,3 +114,9 @@ some_beyond S dirs q has is sides not_inner = by (search_sides S q dirs)
     by : Found S q dirs ⊎ ((dir : Dir) → In dir dirs → Beyond S dir q → ⊥) → Found S q dirs
     by (inl f) = f
     by (inr none) = absurd (not_inner (inner_of_free S q has is (λ dir side b. none dir (In-from_contains dirs dir ((sides.each dir).1 side)) b)))
+
+pub listed_beyond : (job : Job) (c : Contact) (dirs : List Dir) (q : Point) → IsContact job c → AreSides (points_of job c) dirs → IsPoint q → (Inner (points_of job c) q → ⊥)
+    → (dir : Dir) × Contains dirs dir × Beyond (points_of job c) dir q
+listed_beyond job c dirs q is sides point free =
+    let f = some_beyond (points_of job c) dirs q (area_of_contact job c is) point sides free in
+    (f.0, Contains-from_in dirs f.0 f.1, f.2)
