@@ -4,7 +4,7 @@
 //! that the calls may be made.
 #![tactic(auto)]
 
-ghost use Rattle.std.specs.Prelude.{◌≤◌, ◌<◌, ◌^◌, unsigned_abs, length, IfOk, All};
+ghost use Rattle.std.specs.Prelude.{◌<◌, ◌^◌, unsigned_abs, IfOk, All};
 ghost use Rattle.outline_laws.specs.Beyond.{FitsProducts};
 ghost use Rattle.outline_laws.specs.Corners.{AreCorners, IsNarrow};
 ghost use Rattle.outline_laws.specs.Outlines.{AreOutlines};
