@@ -1,4 +1,4 @@
-ghost use Rattle.std.specs.Prelude.{◌≤◌, IfOk, List, All, length};
+ghost use Rattle.std.specs.Prelude.{IfOk, List, All};
 ghost use Rattle.outline_laws.specs.Beyond.{FitsProducts};
 ghost use Rattle.outline_laws.specs.Corners.{AreCorners, IsNarrow};
 ghost use Rattle.outline_laws.specs.Directions.{IsGoodAfter, IsShort};
