@@ -13,8 +13,7 @@ ghost use Rattle.std.specs.Prelude.{◌≡◌, List, [], reverse, IfOk, All, Con
 ghost use Rattle.seq_model.specs.declared.printer.Spot.{Spot};
 ghost use Rattle.seq_model.specs.Points.{Point, at_spot};
 ghost use Rattle.seq_model.specs.Outlines.{Inner, Within};
-ghost use Rattle.outline_laws.specs.Corners.{turn, AreCorners, AreEnds, HasArea, IsNarrow, NoThreeOnALine};
-ghost use Rattle.outline_laws.specs.Hulls.{HullOf};
+ghost use Rattle.outline_laws.specs.Corners.{turn, AreCorners, AreEnds, HasArea, IsNarrow};
 ghost use Rattle.outline_laws.specs.Chains.{fallen, grown, both_chains, IsRising, SameMembers};
 
 mod inner;

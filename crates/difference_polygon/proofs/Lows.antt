@@ -1,6 +1,6 @@
 -- The low corner of a sound object is as near as the corners of its zones.
-use Rattle.std.proofs.Common.{◌≡◌, ◌≤◌, ◌<◌, ◌^◌, ◌++◌, List, [], ◌∷◌, length, map, flat_map, ap, sym, subst, ◌∙◌, arith, ℤ, unsigned_abs, All, Contains, ◌⊎◌, inl, inr, refl, fold}
-use Rattle.std.proofs.lemmas.Int.{ints, fold-int_min_reached}
+use Rattle.std.proofs.Common.{◌≡◌, ◌≤◌, ◌<◌, ◌^◌, List, [], ◌∷◌, length, map, sym, subst, arith, ℤ, unsigned_abs, All, Contains, ◌⊎◌, inl, inr, refl, fold}
+use Rattle.std.proofs.lemmas.Int.{fold-int_min_reached}
 use Rattle.std.proofs.lemmas.List.{length-append}
 use Rattle.std.specs.Int.{int_min}
 use Rattle.integer_laws.specs.Extremes.{least}

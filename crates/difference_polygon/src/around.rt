@@ -61,7 +61,7 @@ fn reduced_edges(alloc: Global, a: &[Spot], b: &[Spot], f: &[Spot]) -> Result<Ve
     ensures reduced { IfOk result (λ dirs. AllReduced (all_edges a.now b.now f.now) dirs.items) }
     ensures short { IfOk result (λ dirs. All IsShort dirs.items) }
 {
-    let mut edges = Vec::new(alloc);
+    let mut edges = Vec::with_capacity(alloc, a.len() + b.len() + f.len())?;
     push_edges(&mut edges, a, false)?;
     push_edges(&mut edges, b, true)?;
     push_edges(&mut edges, f, true)?;

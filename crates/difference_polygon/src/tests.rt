@@ -1,7 +1,7 @@
-ghost use Rattle.std.specs.Prelude.{◌≤◌, IfOk, List, All, length};
+ghost use Rattle.std.specs.Prelude.{IfOk, List, All};
 ghost use Rattle.outline_laws.specs.Beyond.{FitsProducts};
 ghost use Rattle.outline_laws.specs.Corners.{AreCorners, IsNarrow};
-ghost use Rattle.outline_laws.specs.Directions.{IsShort};
+ghost use Rattle.outline_laws.specs.Directions.{IsGoodAfter, IsShort};
 ghost use Rattle.outline_laws.specs.Outlines.{AreOutlines};
 
 use super::*;
@@ -61,7 +61,7 @@ fn outline(alloc: Global, shape: Shape) -> Result<Vec<Spot>, NoMemory>
     hull(alloc, given.as_slice())
 }
 
-// Whether these are the sides, each with its greatest value, and each the next one after the one before.
+// Whether these are the sides, each with its greatest value.
 fn are_rows(dirs: &[Dir], rows: &[(i64, i64, i64)], a: &[Spot], b: &[Spot], f: &[Spot]) -> bool
     requires dirs { All IsShort dirs.now }
     requires outlines { AreOutlines a.now b.now f.now }
@@ -80,8 +80,33 @@ fn are_rows(dirs: &[Dir], rows: &[(i64, i64, i64)], a: &[Spot], b: &[Spot], f: &
     true
 }
 
+// The direction of a row, and none past the last row.
+fn direction_of(rows: &[(i64, i64, i64)], k: usize) -> Option<Dir>
+    ensures { IsGoodAfter result }
+{
+    match rows.get(k) {
+        Some(row) if row.0 != 0 || row.1 != 0 => Some(Dir { x: row.0, y: row.1 }),
+        _ => None,
+    }
+}
+
+// Whether each row is the next side after the row before, and there is none after the last row.
+fn follow(rows: &[(i64, i64, i64)], a: &[Spot], b: &[Spot], f: &[Spot]) -> bool
+    requires { AreOutlines a.now b.now f.now }
+{
+    if next_side(a, b, f, None) != direction_of(rows, 0) {
+        return false;
+    }
+    for k in 0..rows.len() {
+        if next_side(a, b, f, direction_of(rows, k)) != direction_of(rows, k + 1) {
+            return false;
+        }
+    }
+    true
+}
+
 // Three outlines, and the sides of their difference with the greatest values.
-static ROWS: [((Shape, Shape, Shape), &[(i64, i64, i64)]); 4] = [
+static ROWS: [((Shape, Shape, Shape), &[(i64, i64, i64)]); 5] = [
     (
         (Shape::Wedge, Shape::Wedge, Shape::Nozzle),
         &[
@@ -115,6 +140,21 @@ static ROWS: [((Shape, Shape, Shape), &[(i64, i64, i64)]); 4] = [
             (1, -4, 90),
         ],
     ),
+    (
+        (Shape::Wedge, Shape::Triangle, Shape::Bar),
+        &[
+            (1, 0, 24),
+            (1, 1, 25),
+            (0, 1, 21),
+            (-1, 6, 124),
+            (-1, 4, 84),
+            (-1, 0, 12),
+            (-1, -1, 16),
+            (0, -1, 8),
+            (1, -4, 46),
+            (5, -2, 122),
+        ],
+    ),
 ];
 
 fn see_sides(
@@ -139,11 +179,12 @@ fn see_sides(
             f.as_slice()
         )
     );
+    assert!(rt; follow(rows, a.as_slice(), b.as_slice(), f.as_slice()));
     Ok(())
 }
 
 #[test]
-fn sides_of_four_differences(rt: HostRuntime) -> Result<(), Fail> {
+fn sides_of_five_differences(rt: HostRuntime) -> Result<(), Fail> {
     for (shapes, rows) in &ROWS {
         see_sides(&rt, rt.alloc(), shapes, rows)?;
     }
@@ -151,7 +192,7 @@ fn sides_of_four_differences(rt: HostRuntime) -> Result<(), Fail> {
 }
 
 // Three outlines, numerators and the denominator of a point, and whether it is inner to their difference.
-static POINTS: [((Shape, Shape, Shape), (i8, i8, u8), bool); 6] = [
+static POINTS: [((Shape, Shape, Shape), (i8, i8, u8), bool); 7] = [
     ((Shape::Cube, Shape::Cube, Shape::Nozzle), (24, 0, 1), false),
     ((Shape::Cube, Shape::Cube, Shape::Nozzle), (47, 0, 2), true),
     ((Shape::Cube, Shape::Cube, Shape::Tip), (47, 0, 2), false),
@@ -165,6 +206,11 @@ static POINTS: [((Shape, Shape, Shape), (i8, i8, u8), bool); 6] = [
         (Shape::Triangle, Shape::Cube, Shape::Bar),
         (-20, 5, 1),
         false,
+    ),
+    (
+        (Shape::Wedge, Shape::Triangle, Shape::Bar),
+        (23, 0, 1),
+        true,
     ),
 ];
 
@@ -201,7 +247,7 @@ fn see_point(
 }
 
 #[test]
-fn points_of_three_differences(rt: HostRuntime) -> Result<(), Fail> {
+fn points_of_four_differences(rt: HostRuntime) -> Result<(), Fail> {
     for (shapes, numbers, inner) in &POINTS {
         see_point(&rt, rt.alloc(), shapes, &point(numbers), *inner)?;
     }

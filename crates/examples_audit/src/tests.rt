@@ -1,12 +1,16 @@
-ghost use Rattle.std.specs.Prelude.{◌≡◌, ◌∷◌, [], pos, length, All, IfOk};
+ghost use Rattle.std.specs.Prelude.{◌≡◌, ◌∷◌, [], pos, length, All, IfOk, IfSome};
 ghost use Rattle.examples_model.specs.Cubes.{cube, nozzle, gantry, object_of};
 ghost use Rattle.examples_model.specs.Jobs.{gantry_part, nozzle_part};
+ghost use Rattle.outline_laws.specs.Directions.{IsShort};
 ghost use Rattle.plan_audit.specs.Places.{IsRoomy};
+ghost use Rattle.seq_model.specs.Contacts.{IsContact};
 ghost use Rattle.seq_model.specs.Parts.{tip};
 
+use difference_polygon::{SideRow, side_row};
 use owned_lists::{Items, Text};
 use plan_audit::{Hit, Verdict, audit};
-use seq_model::{Job, Object, Part, Place, Plan, Printer, Spot, Zone};
+use printer_envelopes::zones_meet;
+use seq_model::{Contact, Dir, Job, Object, Part, Place, Plan, Printer, Spot, Zone};
 use std::alloc::{AllocError, Global};
 use std::test::Fail;
 
@@ -177,6 +181,79 @@ fn two_cubes_are_audited(rt: HostRuntime) -> Result<(), Fail> {
     let job = two_cubes(alloc)?;
     for row in &AUDITED {
         assert_eq!(rt; verdict_of(alloc, &job, row)?, Some(row.3));
+    }
+    Ok(())
+}
+
+// The contact of the first zones of two objects by a part, if they meet by it.
+fn first_contact(job: &Job, i: u32, j: u32, part: u32) -> Option<Contact>
+    ensures { IfSome result (λ contact. IsContact job.now contact) }
+{
+    let objects = job.objects.as_slice();
+    let parts = job.printer.parts.as_slice();
+    if i == j
+        || i as usize >= objects.len()
+        || j as usize >= objects.len()
+        || part as usize >= parts.len()
+    {
+        return None;
+    }
+    let earlier = objects[i as usize].zones.as_slice();
+    let later = objects[j as usize].zones.as_slice();
+    if earlier.is_empty() || later.is_empty() {
+        return None;
+    }
+    if !zones_meet(&parts[part as usize], &later[0], &earlier[0]) {
+        return None;
+    }
+    Some(Contact {
+        i,
+        zi: 0,
+        part,
+        zj: 0,
+        j,
+    })
+}
+
+fn row_of(job: &Job, i: u32, j: u32, part: u32, dir: Dir) -> Option<SideRow>
+    requires { IsShort dir }
+{
+    match first_contact(job, i, j, part) {
+        Some(contact) => Some(side_row(job, &contact, dir)),
+        None => None,
+    }
+}
+
+// The earlier and the later of two cubes, a part, a side, and the constant of its row; the gantry passes above both.
+static SIDES: [(u32, u32, u32, (i8, i8), Option<i64>); 4] = [
+    (0, 1, 1, (1, 0), Some(-24)),
+    (1, 0, 1, (0, -1), Some(-24)),
+    (0, 1, 0, (-1, 0), Some(-22)),
+    (0, 1, 2, (1, 0), None),
+];
+
+fn direction(pair: &(i8, i8)) -> Dir
+    ensures { IsShort result }
+{
+    Dir {
+        x: i64::from(pair.0),
+        y: i64::from(pair.1),
+    }
+}
+
+#[test]
+fn sides_of_two_cubes_have_rows(rt: HostRuntime) -> Result<(), Fail> {
+    let job = two_cubes(rt.alloc())?;
+    for (i, j, part, pair, constant) in &SIDES {
+        let dir = direction(pair);
+        let row = constant.map(|c| SideRow {
+            c,
+            x: dir.x,
+            y: dir.y,
+            i: *i,
+            j: *j,
+        });
+        assert_eq!(rt; row_of(&job, *i, *j, *part, dir), row);
     }
     Ok(())
 }

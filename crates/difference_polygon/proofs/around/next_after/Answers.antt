@@ -1,4 +1,4 @@
-use Rattle.std.proofs.Common.{ap, sym, subst, ◌∙◌, None}
+use Rattle.std.proofs.Common.{sym, subst}
 use Rattle.outline_laws.specs.Laws.Around.{IsGoodAfter, IsReduced, all_edges, first_good, next_of_edges}
 use Rattle.difference_polygon.proofs.around.next_after.Goals as goal
 

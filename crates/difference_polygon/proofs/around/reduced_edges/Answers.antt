@@ -17,6 +17,6 @@ returns-clause-reduced c =
     let F = c.args.f.now in
     let pushed : c.push_edges-3.new.edges.items ≡ all_edges A B F =
     c.in_ok-push_edges-3.ensures.pushed
-    ∙ ap (λ ds. ds ++ edges_if true F) (c.in_ok-push_edges-2.ensures.pushed ∙ ap (λ ds. ds ++ edges_if true B) (c.in_ok-push_edges.ensures.pushed ∙ ap (λ ds. ds ++ edges_if false A) c.new-edges.ensures.items))
+    ∙ ap (λ ds. ds ++ edges_if true F) (c.in_ok-push_edges-2.ensures.pushed ∙ ap (λ ds. ds ++ edges_if true B) (c.in_ok-push_edges.ensures.pushed ∙ ap (λ ds. ds ++ edges_if false A) c.in_ok-edges.ensures.items))
     ∙ all_pushed A B F in
     IfOk-weaker c.reduced_by_angle.result _ _ (λ dirs all. subst (λ ds. AllReduced ds dirs.items) pushed all) c.reduced_by_angle.ensures.reduced

@@ -1,4 +1,4 @@
-use Rattle.std.proofs.Common.{◌≡◌, ◌∙◌, ap, sym, ◌&&◌}
+use Rattle.std.proofs.Common.{◌∙◌, ap, sym, ◌&&◌}
 use Rattle.seq_model.specs.Contacts.{difference}
 use Rattle.outline_laws.specs.Laws.Clear.{clear_of, in_box, all_clear, inner_is_all, free_is_all}
 use Rattle.difference_polygon.proofs.inside.strictly_in.Goals as goal

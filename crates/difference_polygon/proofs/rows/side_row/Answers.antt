@@ -1,5 +1,5 @@
 use Rattle.std.proofs.Common.{◌≡◌, ◌∙◌, ap, rules, FitsSigned, w64, to_z-of_z, ℕ, ℤ}
-use Rattle.seq_model.specs.Systems.{pair_row, side_constant}
+use Rattle.seq_model.specs.Systems.{pair_row}
 use Rattle.seq_model.specs.declared.job.Job.{Job}
 use Rattle.difference_polygon.proofs.rows.side_row.Goals as goal
 

@@ -1,4 +1,4 @@
-use Rattle.std.proofs.Common.{◌≡◌, ◌∙◌, sym, ap, subst, All, None}
+use Rattle.std.proofs.Common.{◌∙◌, sym, ap, subst, All, None}
 use Rattle.std.proofs.lemmas.Result.{IfOk-weaker}
 use Rattle.std.proofs.lemmas.List.Sorted.{All-permutation}
 use Rattle.outline_laws.specs.Directions.{AllReduced, IsShort}
