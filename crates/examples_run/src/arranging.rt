@@ -165,7 +165,7 @@ fn large_files_are_read_or_too_long(rt: HostRuntime) -> Result<(), Fail> {
 const NO_MESH: &[&str] = &["arrange", "p0.toml"];
 
 // Words, calls of the shelf that fail, the status and the line on `err`.
-static RUNS: [(&[&str], &[u64], u8, &[u8]); 21] = [
+static RUNS: [(&[&str], &[u64], u8, &[u8]); 23] = [
     (&[], &[], 2, b"words: unknown command\n"),
     (
         &["arange", "p0.toml", "a.stl"],
@@ -209,7 +209,9 @@ static RUNS: [(&[&str], &[u64], u8, &[u8]); 21] = [
         b"words: more than 16 meshes\n",
     ),
     (&["check", "p", "q", "r"], &[], 2, b"words: not yet\n"),
-    (&["audit", "p", "q", "r"], &[], 2, b"words: not yet\n"),
+    (&["audit", "p", "q", "r"], &[], 3, b"read: p\n"),
+    (&["audit", "p0.toml", "q", "r"], &[], 3, b"read: q\n"),
+    (&["audit", "p0.toml", "q"], &[], 2, b"words: usage\n"),
     (&["slices", "p0.toml", "b.stl"], &[], 3, b"read: b.stl\n"),
     (&["trial", "1", "0"], &[], 2, b"words: not yet\n"),
     (
