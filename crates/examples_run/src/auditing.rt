@@ -84,7 +84,7 @@ static AUDITED: [(&[u8], &[u8], Mesh, &[&str], u8, &[u8], &[u8]); 14] = [
         b"audit good\n",
         b"",
     ),
-    // an open mesh isn't noted
+    // thirds of a grain
     (
         UNEVEN,
         b"seqplan 1\nstate open budget\ngrid 40\nextent 40\nscale 3\nplace 0 9 10\n",
@@ -94,6 +94,7 @@ static AUDITED: [(&[u8], &[u8], Mesh, &[&str], u8, &[u8], &[u8]); 14] = [
         b"audit good\n",
         b"",
     ),
+    // an open mesh isn't noted
     (
         PLATE,
         b"seqplan 1\nstate none\ngrid 100\n",
