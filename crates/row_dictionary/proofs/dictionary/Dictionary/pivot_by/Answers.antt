@@ -1,4 +1,4 @@
-use Rattle.std.proofs.Common.{rules, ◌≡◌, ◌<◌, ◌+◌, ◌∙◌, ap, ap₂, sym, subst, arith, get_or, set, length, List, ℕ, pos, suc}
+use Rattle.std.proofs.Common.{◌≡◌, ◌+◌, ◌∙◌, ap, ap₂, sym, subst, arith, get_or, set, length, List, ℕ, suc}
 use Rattle.integer_laws.specs.Laws.Members.{In-from_contains}
 use Rattle.row_pivots.specs.Laws.Measure.{place_is}
 use Rattle.row_pivots.specs.Tables.{place_of}
