@@ -20,14 +20,20 @@ pub struct Contacts {
     pub rows: Items<Items<Items<Kept>>>,
 }
 
-fn row_of(alloc: Global, job: &Job, nested: &Nested, i: usize) -> Result<Items<Items<Kept>>, NoMemory>
+fn object_count(job: &Job) -> u32
+    ensures { result ≡ length job.now.objects }
+{
+    job.objects.len() as u32
+}
+
+fn row_of(alloc: Global, job: &Job, nested: &Nested, i: u32) -> Result<Items<Items<Kept>>, NoMemory>
     requires nested { IsNested job.now nested.now }
     requires earlier { i < length job.now.objects }
     ensures { IfOk result (IsRow job.now i) }
 {
     let mut row = Items::new(alloc);
-    for j in 0..job.objects.len() {
-        row.push(maximal(alloc, job, nested, i as u32, j as u32)?)?;
+    for j in 0..object_count(job) {
+        row.push(maximal(alloc, job, nested, i, j)?)?;
     }
     Ok(row)
 }
@@ -37,7 +43,7 @@ fn rows_of(alloc: Global, job: &Job, nested: &Nested) -> Result<Items<Items<Item
     ensures { IfOk result (AreRows job.now) }
 {
     let mut rows = Items::new(alloc);
-    for i in 0..job.objects.len() {
+    for i in 0..object_count(job) {
         rows.push(row_of(alloc, job, nested, i)?)?;
     }
     Ok(rows)
@@ -50,9 +56,8 @@ impl Contacts {
         ensures enough { IfOk result (λ contacts. AreEnough job.now (kept_contacts contacts)) }
     {
         let nested = Nested::of(alloc, job)?;
-        Ok(Contacts {
-            rows: rows_of(alloc, job, &nested)?,
-        })
+        let rows = rows_of(alloc, job, &nested)?;
+        Ok(Contacts { rows })
     }
 
     /// Those of two objects, i the earlier one. Takes no memory.

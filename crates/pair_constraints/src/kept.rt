@@ -85,8 +85,7 @@ fn apart(a: i64, b: i64) -> i64
 
 fn low_of(job: &Job, i: u32) -> Spot
     requires object { i < length job.now.objects }
-    ensures value { result ≡ (object_at job.now i).low }
-    ensures near { IsNarrow result }
+    ensures { result ≡ (object_at job.now i).low }
 {
     job.objects.as_slice()[i as usize].low
 }

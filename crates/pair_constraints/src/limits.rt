@@ -106,7 +106,7 @@ fn reaches_no_farther(limit: &Limit, a: &[Spot], b: &[Spot], f: &[Spot]) -> bool
     limit.most >= support(limit.dir, a, b, f)
 }
 
-fn all_reach_no_farther(limits: &[Limit], a: &[Spot], b: &[Spot], f: &[Spot]) -> bool
+pub(crate) fn all_reach_no_farther(limits: &[Limit], a: &[Spot], b: &[Spot], f: &[Spot]) -> bool
     requires limits { All IsFit limits.now }
     requires outlines { AreOutlines a.now b.now f.now }
     ensures { result ≡ list_all (is_short_of (difference a.now b.now f.now)) limits.now }

@@ -1,19 +1,22 @@
 // The maximal ones of contacts of two objects.
-ghost use Rattle.std.specs.Prelude.{◌≡◌, ◌≢◌, ◌<◌, ◌++◌, ◌∷◌, [], List, All, AllPairs, length, map, IfOk, OnOk, IsTrue, ◌↔◌, ◌⊎◌, false};
+ghost use Rattle.std.specs.Prelude.{◌≡◌, ◌≢◌, ◌<◌, ◌++◌, ◌∷◌, [], All, AllPairs, length, IfOk, OnOk, IsTrue, ◌↔◌, false};
+ghost use Rattle.std.specs.List.{list_all};
+ghost use Rattle.integer_laws.specs.Members.{In};
 ghost use Rattle.pair_constraints.specs.Keeping.{IsKept};
-ghost use Rattle.pair_constraints.specs.Limits.{AreLimits, IsFit};
+ghost use Rattle.pair_constraints.specs.Limits.{IsFit};
+ghost use Rattle.pair_constraints.specs.Laws.Covering.{is_short_of};
 ghost use Rattle.pair_constraints.specs.Maximal.{AreApart, IsOf, IsPair, contacts_of};
 ghost use Rattle.pair_constraints.specs.Laws.Nesting.{IsNested};
 ghost use Rattle.pair_constraints.specs.Laws.Settling.{Leaves, Settles};
-ghost use Rattle.pair_constraints.specs.Laws.Parting.{AreKeptOf};
+ghost use Rattle.pair_constraints.specs.Laws.Parting.{AreKeptOf, IsFree, IsShort};
 ghost use Rattle.search_laws.specs.Covering.{Covers, IsCovered};
 ghost use Rattle.seq_model.specs.Contacts.{IsContact, difference, points_of};
 ghost use Rattle.seq_model.specs.Parts.{IsSoundPart};
 ghost use Rattle.seq_model.specs.Soundness.{IsSoundZone};
-ghost use Rattle.seq_model.specs.declared.printer.Spot.{Spot};
+ghost use Rattle.pair_constraints.specs.declared.kept.Kept.{Kept};
 
 use crate::kept::{Kept, keep};
-use crate::limits::cover;
+use crate::limits::{Limit, all_reach_no_farther};
 use crate::nesting::Nested;
 use crate::settling::settled;
 use owned_lists::Items;
@@ -21,20 +24,38 @@ use seq_model::{Contact, Job, Part, Zone};
 use seq_num::NoMemory;
 use std::alloc::{AllocError, Global};
 
-fn covers_zones(kept: &Kept, a: &Zone, b: &Zone, part: &Part) -> bool
+fn zones_reach_no_farther(limits: &[Limit], a: &Zone, b: &Zone, part: &Part) -> bool
     requires a { IsSoundZone a.now }
     requires b { IsSoundZone b.now }
     requires part { IsSoundPart part.now }
-    requires fit { All IsFit kept.now.limits }
-    ensures { (covering : List Spot) → AreLimits covering kept.now.limits → IsTrue result
-        ↔ Covers covering (difference a.now.corners b.now.corners part.now.corners) }
+    requires fit { All IsFit limits.now }
+    ensures { result ≡ list_all (is_short_of (difference a.now.corners b.now.corners part.now.corners)) limits.now }
 {
-    cover(
-        kept.limits.as_slice(),
+    all_reach_no_farther(
+        limits,
         a.corners.as_slice(),
         b.corners.as_slice(),
         part.corners.as_slice(),
     )
+}
+
+fn reaches_no_farther(limits: &[Limit], job: &Job, contact: &Contact) -> bool
+    requires contact { IsContact job.now contact.now }
+    requires fit { All IsFit limits.now }
+    ensures { result ≡ list_all (is_short_of (points_of job.now contact.now)) limits.now }
+{
+    let a = &job.objects.as_slice()[contact.i as usize].zones.as_slice()[contact.zi as usize];
+    let b = &job.objects.as_slice()[contact.j as usize].zones.as_slice()[contact.zj as usize];
+    let part = &job.printer.parts.as_slice()[contact.part as usize];
+    zones_reach_no_farther(limits, a, b, part)
+}
+
+fn limits_cover(kept: &Kept, job: &Job, contact: &Contact) -> bool
+    requires contact { IsContact job.now contact.now }
+    requires fit { All IsFit kept.now.limits }
+    ensures { result ≡ list_all (is_short_of (points_of job.now contact.now)) kept.now.limits }
+{
+    reaches_no_farther(kept.limits.as_slice(), job, contact)
 }
 
 fn covers(job: &Job, kept: &Kept, contact: &Contact) -> bool
@@ -42,17 +63,14 @@ fn covers(job: &Job, kept: &Kept, contact: &Contact) -> bool
     requires contact { IsContact job.now contact.now }
     ensures { IsTrue result ↔ Covers (points_of job.now kept.now.contact) (points_of job.now contact.now) }
 {
-    let a = &job.objects.as_slice()[contact.i as usize].zones.as_slice()[contact.zi as usize];
-    let b = &job.objects.as_slice()[contact.j as usize].zones.as_slice()[contact.zj as usize];
-    let part = &job.printer.parts.as_slice()[contact.part as usize];
-    covers_zones(kept, a, b, part)
+    limits_cover(kept, job, contact)
 }
 
 fn is_covered(kept: &[Kept], job: &Job, contact: &Contact) -> bool
     requires contact { IsContact job.now contact.now }
     requires kept { All (AreKeptOf job.now contact.now.i contact.now.j) kept.now }
     ensures covered { IsTrue result → IsCovered job.now (contacts_of kept.now) contact.now }
-    ensures none { result ≡ false → All (λ k. Covers (points_of job.now k.contact) (points_of job.now contact.now) → ⊥) kept.now }
+    ensures none { result ≡ false → All (IsShort job.now contact.now) kept.now }
 {
     for other in kept {
         if covers(job, other, contact) {
@@ -70,7 +88,8 @@ fn leave_covered(kept: &mut Vec<Kept>, job: &Job, by: &Kept)
     ensures kept { All (AreKeptOf job.now by.now.contact.i by.now.contact.j) kept.new.items }
     ensures apart { AllPairs (AreApart job.now) kept.new.items }
     ensures leaves { Leaves job.now by.now.contact (contacts_of kept.old.items) (contacts_of kept.new.items) }
-    ensures none { All (λ k. Covers (points_of job.now by.now.contact) (points_of job.now k.contact) → ⊥) kept.new.items }
+    ensures only { (k : Kept) → In k kept.new.items → In k kept.old.items }
+    ensures none { All (IsFree job.now by.now.contact) kept.new.items }
 {
     let mut k = 0;
     while k < kept.len() {
@@ -131,6 +150,24 @@ fn settled_kept(
     Ok(kept)
 }
 
+fn maximal_of(
+    alloc: Global,
+    job: &Job,
+    nested: &Nested,
+    i: u32,
+    j: u32,
+) -> Result<Items<Kept>, NoMemory>
+    requires nested { IsNested job.now nested.now }
+    requires earlier { i < length job.now.objects }
+    requires later { j < length job.now.objects }
+    requires apart { i ≢ j }
+    ensures { IfOk result (IsPair job.now i j) }
+{
+    let contacts = settled(alloc, job, nested, i, j)?;
+    let kept = settled_kept(alloc, job, contacts.as_slice(), i, j)?;
+    Ok(Items::from_vec(kept))
+}
+
 /// The maximal contacts of two objects in this order, none of an object with itself.
 pub(crate) fn maximal(
     alloc: Global,
@@ -144,9 +181,8 @@ pub(crate) fn maximal(
     requires later { j < length job.now.objects }
     ensures { IfOk result (IsPair job.now i j) }
 {
-    if i == j {
-        return Ok(Items::new(alloc));
+    if i != j {
+        return maximal_of(alloc, job, nested, i, j);
     }
-    let contacts = settled(alloc, job, nested, i, j)?;
-    Ok(Items::from_vec(settled_kept(alloc, job, contacts.as_slice(), i, j)?))
+    Ok(Items::new(alloc))
 }

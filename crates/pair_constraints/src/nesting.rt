@@ -1,8 +1,8 @@
 // Which zones of an object, and which parts, lie inside which.
-ghost use Rattle.std.specs.Prelude.{◌≡◌, ◌≤◌, ◌<◌, All, length, IfOk, IsTrue};
+ghost use Rattle.std.specs.Prelude.{◌≡◌, ◌≤◌, ◌<◌, [], All, length, slice_index_or, IfOk, IsTrue};
 ghost use Rattle.outline_laws.specs.Corners.{AreCorners, IsNarrow};
 ghost use Rattle.outline_laws.specs.Edges.{last_in_list};
-ghost use Rattle.pair_constraints.specs.Laws.Nesting.{AreTablesOf, IsNested, IsOutline, IsRowOf, IsTableOf, corners_of_parts, corners_of_zones, is_inside, outline_at};
+ghost use Rattle.pair_constraints.specs.Laws.Nesting.{AreTablesOf, IsNested, IsOutline, IsRowOf, IsTableOf, corners_of_parts, corners_of_zones, is_inside, marks, outline_at};
 ghost use Rattle.pair_constraints.specs.Laws.Reaching.{Outreaches, are_behind, is_behind};
 ghost use Rattle.search_laws.specs.Covering.{Covers};
 ghost use Rattle.seq_model.specs.Contacts.{IsContact, points_of};
@@ -164,11 +164,7 @@ impl Nested {
         requires later { outer.now.j ≡ inner.now.j }
         ensures { IsTrue result → Covers (points_of job.now outer.now) (points_of job.now inner.now) }
     {
-        if !is_marked(self.parts.as_slice(), inner.part, outer.part) {
-            return false;
-        }
-        is_marked(self.zones.as_slice()[inner.i as usize].as_slice(), inner.zi, outer.zi)
-            && is_marked(self.zones.as_slice()[inner.j as usize].as_slice(), inner.zj, outer.zj)
+        are_marked(self, inner, outer)
     }
 }
 
@@ -183,4 +179,26 @@ fn is_marked(table: &[Items<bool>], z: u32, y: u32) -> bool
         return false;
     }
     row[y as usize]
+}
+
+fn is_marked_at(tables: &[Items<Items<bool>>], i: u32, z: u32, y: u32) -> bool
+    requires { i < length tables.now }
+    ensures { result ≡ is_inside (slice_index_or tables.now i []) z y }
+{
+    is_marked(tables[i as usize].as_slice(), z, y)
+}
+
+fn are_marked(nested: &Nested, inner: &Contact, outer: &Contact) -> bool
+    requires earlier { inner.now.i < length nested.now.zones }
+    requires later { inner.now.j < length nested.now.zones }
+    ensures { result ≡ marks nested.now inner.now outer.now }
+{
+    let zones = nested.zones.as_slice();
+    if !is_marked(nested.parts.as_slice(), inner.part, outer.part) {
+        return false;
+    }
+    if !is_marked_at(zones, inner.i, inner.zi, outer.zi) {
+        return false;
+    }
+    is_marked_at(zones, inner.j, inner.zj, outer.zj)
 }

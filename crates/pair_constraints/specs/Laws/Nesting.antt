@@ -8,8 +8,9 @@
 --   corners_of_zones, corners_of_parts     the outlines of zones, of parts
 --   AreTablesOf os tables   for each object the table of its zones
 --   IsNested job nested     the tables of a job's objects and parts
---   covers_inside           marked contacts are covered
-use Rattle.std.proofs.Common.{◌≡◌, ℕ, ◌≤◌, ◌<◌, ◌^◌, List, [], length, get_or, map, sym, subst, arith, Bool, true, false, All}
+--   marks nested c d        whether the zones and the part of contact c are marked as lying in those of d
+--   covers_inside           then its difference is covered
+use Rattle.std.proofs.Common.{◌≡◌, ℕ, ◌≤◌, ◌<◌, ◌^◌, List, [], length, get_or, map, sym, subst, arith, Bool, true, false, ◌&&◌, All}
 use Rattle.std.proofs.lemmas.List.{length-map, get_or-map}
 use Rattle.std.proofs.lemmas.List.Elements.{All-map, All-weaker}
 use Rattle.outline_laws.specs.Corners.{AreCorners, IsNarrow}
@@ -27,6 +28,7 @@ use Rattle.seq_model.specs.declared.job.Zone.{Zone}
 use Rattle.seq_model.specs.declared.printer.Part.{Part}
 use Rattle.seq_model.specs.declared.printer.Spot.{Spot}
 use Rattle.seq_model.specs.declared.tree.Contact.{Contact}
+use Rattle.pair_constraints.specs.Laws.Covering.{both_true}
 use Rattle.pair_constraints.specs.Laws.Numbered.{AreBy}
 use Rattle.pair_constraints.specs.Laws.Reaching.{Outreaches, covers_of_reaches, difference_reaches}
 use Rattle.pair_constraints.specs.declared.nesting.Nested.{Nested}
@@ -106,16 +108,23 @@ marked_part job nested k l is lk ll e =
     subst (λ t. Outreaches t (part_at job k).corners) (get_or-map (λ (p : Part). p.corners) parts l no_part [] ll)
     (subst (λ t. Outreaches (outline_at (corners_of_parts parts) l) t) (get_or-map (λ (p : Part). p.corners) parts k no_part [] lk) out)
 
-pub record AreMarked (nested : Nested) (inner outer : Contact) : Type 0 where
-  pub part : is_inside nested.parts inner.part outer.part ≡ true
-  pub earlier : is_inside (get_or nested.zones inner.i []) inner.zi outer.zi ≡ true
-  pub later : is_inside (get_or nested.zones inner.j []) inner.zj outer.zj ≡ true
+abbrev pub marks : Nested → Contact → Contact → Bool
+marks nested inner outer =
+    is_inside nested.parts inner.part outer.part
+    && (is_inside (get_or nested.zones inner.i []) inner.zi outer.zi && is_inside (get_or nested.zones inner.j []) inner.zj outer.zj)
 
 pub covers_inside : (job : Job) (nested : Nested) (inner outer : Contact) → IsNested job nested → IsContact job inner → IsContact job outer → outer.i ≡ inner.i → outer.j ≡ inner.j
-    → AreMarked nested inner outer → Covers (points_of job outer) (points_of job inner)
-covers_inside job nested inner outer is ci co si sj marked =
+    → marks nested inner outer ≡ true → Covers (points_of job outer) (points_of job inner)
+covers_inside job nested inner outer is ci co si sj e =
     covers_of_reaches (points_of job outer) (points_of job inner) (difference_reaches A B F C D E (some_a oi) (some_b oi) oi.f_some (some_a oo) (some_b oo) oo.f_some earlier later part)
   where
+    by_part : (is_inside nested.parts inner.part outer.part ≡ true)
+        × ((is_inside (get_or nested.zones inner.i []) inner.zi outer.zi && is_inside (get_or nested.zones inner.j []) inner.zj outer.zj) ≡ true)
+    by_part = both_true _ _ e
+
+    by_zones : (is_inside (get_or nested.zones inner.i []) inner.zi outer.zi ≡ true) × (is_inside (get_or nested.zones inner.j []) inner.zj outer.zj ≡ true)
+    by_zones = both_true _ _ by_part.1
+
     A : List Spot
     A = (zone_at job inner.i inner.zi).corners
 
@@ -149,12 +158,12 @@ covers_inside job nested inner outer is ci co si sj marked =
     earlier : Outreaches (zone_at job outer.i outer.zi).corners (zone_at job inner.i inner.zi).corners
     earlier =
         subst (λ i. Outreaches (zone_at job i outer.zi).corners (zone_at job inner.i inner.zi).corners) (sym si)
-        (marked_zone job nested inner.i inner.zi outer.zi is ci.i_in ci.zi_in (subst (λ i. outer.zi < length (zones_of job i)) si co.zi_in) marked.earlier)
+        (marked_zone job nested inner.i inner.zi outer.zi is ci.i_in ci.zi_in (subst (λ i. outer.zi < length (zones_of job i)) si co.zi_in) by_zones.0)
 
     later : Outreaches (zone_at job outer.j outer.zj).corners (zone_at job inner.j inner.zj).corners
     later =
         subst (λ j. Outreaches (zone_at job j outer.zj).corners (zone_at job inner.j inner.zj).corners) (sym sj)
-        (marked_zone job nested inner.j inner.zj outer.zj is ci.j_in ci.zj_in (subst (λ j. outer.zj < length (zones_of job j)) sj co.zj_in) marked.later)
+        (marked_zone job nested inner.j inner.zj outer.zj is ci.j_in ci.zj_in (subst (λ j. outer.zj < length (zones_of job j)) sj co.zj_in) by_zones.1)
 
     part : Outreaches (part_at job outer.part).corners (part_at job inner.part).corners
-    part = marked_part job nested inner.part outer.part is ci.part_in co.part_in marked.part
+    part = marked_part job nested inner.part outer.part is ci.part_in co.part_in by_part.0

@@ -4,7 +4,7 @@
 --   AtZones job i zi zj j c   and this zone of the earlier one
 --   Settles job P old new     the new list covers what P says, and what the old list covers
 --   Leaves job by old new     what the new list has no more of the old one, this contact covers
-use Rattle.std.proofs.Common.{◌≡◌, ℕ, zero, suc, ◌+◌, ◌<◌, ◌≤◌, List, [], ◌∷◌, ◌++◌, length, get_or, remove, refl, sym, subst, ◌∙◌, arith, All, ◌⊎◌, inl, inr, ℤ, ◌≤ℤ◌}
+use Rattle.std.proofs.Common.{◌≡◌, ◌≢◌, ℕ, zero, suc, ◌+◌, ◌<◌, ◌≤◌, List, [], ◌∷◌, ◌++◌, length, get_or, remove, refl, sym, subst, ◌∙◌, arith, All, ◌⊎◌, inl, inr, ℤ, ◌≤ℤ◌}
 use Rattle.std.proofs.lemmas.Int.{ints}
 use Rattle.std.proofs.lemmas.Bool.{cases_lt}
 use Rattle.integer_laws.specs.Members.{In}
@@ -151,29 +151,39 @@ below_or_at n k h = by (cases_lt n k)
 the_contact : (c : Contact) (i zi part zj j : ℕ) → c.i ≡ i → c.zi ≡ zi → c.part ≡ part → c.zj ≡ zj → c.j ≡ j → c ≡ contact_of i zi part zj j
 the_contact c i zi part zj j a b d e f = let same : contact_of c.i c.zi c.part c.zj c.j ≡ contact_of i zi part zj j = cc in same
 
-part_cases : (job : Job) (i zi zj j k : ℕ) (c : Contact) → PartsBelow job i zi zj j (k + 1) c → PartsBelow job i zi zj j k c ⊎ (c ≡ contact_of i zi k zj j)
+pub record IsNamed (job : Job) (c : Contact) : Type 0 where
+  pub i_in : c.i < length job.objects
+  pub j_in : c.j < length job.objects
+  pub apart : c.i ≢ c.j
+  pub zi_in : c.zi < length (zones_of job c.i)
+  pub zj_in : c.zj < length (zones_of job c.j)
+  pub part_in : c.part < length job.printer.parts
+
+pub contact_named : (job : Job) (c : Contact) → IsNamed job c → ZonesMeet (zone_at job c.i c.zi) (part_at job c.part) (zone_at job c.j c.zj) → IsContact job c
+contact_named job c is meet = record { i_in = is.i_in; j_in = is.j_in; apart = is.apart; zi_in = is.zi_in; zj_in = is.zj_in; part_in = is.part_in; meet = meet }
+
+abbrev pub IsThe : Job → Contact → Contact → Type 0
+IsThe job the c = IsContact job c × (c ≡ the)
+
+pub settles_no : (job : Job) (x : Contact) (kept : List Contact) → (IsContact job x → ⊥) → Settles job (IsThe job x) kept kept
+settles_no job x kept none = settles_none job (IsThe job x) kept (λ c p. none (subst (IsContact job) p.1 p.0))
+
+pub settles_the : (job : Job) (x : Contact) (a b : List Contact) → Settles job (λ c. c ≡ x) a b → Settles job (IsThe job x) a b
+settles_the job x a b s = settles_same job (λ c. c ≡ x) (IsThe job x) a b (λ c p. p.1) s
+
+part_cases : (job : Job) (i zi zj j k : ℕ) (c : Contact) → PartsBelow job i zi zj j (k + 1) c → PartsBelow job i zi zj j k c ⊎ IsThe job (contact_of i zi k zj j) c
 part_cases job i zi zj j k c p = by (below_or_at c.part k p.1)
   where
-    by : (c.part < k) ⊎ (c.part ≡ k) → PartsBelow job i zi zj j k c ⊎ (c ≡ contact_of i zi k zj j)
+    by : (c.part < k) ⊎ (c.part ≡ k) → PartsBelow job i zi zj j k c ⊎ IsThe job (contact_of i zi k zj j) c
     by (inl l) = inl (p.0, l)
-    by (inr e) = inr (the_contact c i zi k zj j p.0.0.earlier p.0.2 e p.0.1 p.0.0.later)
+    by (inr e) = inr (p.0.0.is, the_contact c i zi k zj j p.0.0.earlier p.0.2 e p.0.1 p.0.0.later)
 
 pub parts_begin : (job : Job) (i zi zj j : ℕ) (kept : List Contact) → Settles job (PartsBelow job i zi zj j 0) kept kept
 parts_begin job i zi zj j kept = settles_none job (PartsBelow job i zi zj j 0) kept (λ c p. absurd (omega (arith, p.1)))
 
-pub parts_more : (job : Job) (i zi zj j k : ℕ) (a b c : List Contact) → Settles job (PartsBelow job i zi zj j k) a b → Settles job (λ x. x ≡ contact_of i zi k zj j) b c → Settles job (PartsBelow job i zi zj j (k + 1)) a c
+pub parts_more : (job : Job) (i zi zj j k : ℕ) (a b c : List Contact) → Settles job (PartsBelow job i zi zj j k) a b → Settles job (IsThe job (contact_of i zi k zj j)) b c → Settles job (PartsBelow job i zi zj j (k + 1)) a c
 parts_more job i zi zj j k a b c first second =
-    settles_then job (PartsBelow job i zi zj j k) (λ x. x ≡ contact_of i zi k zj j) (PartsBelow job i zi zj j (k + 1)) a b c (λ x p. (p.0.0.is, part_cases job i zi zj j k x p)) first second
-
-pub parts_pass : (job : Job) (i zi zj j k : ℕ) (a b : List Contact) → (ZonesMeet (zone_at job i zi) (part_at job k) (zone_at job j zj) → ⊥) → Settles job (PartsBelow job i zi zj j k) a b → Settles job (PartsBelow job i zi zj j (k + 1)) a b
-parts_pass job i zi zj j k a b apart first = settles_same job (PartsBelow job i zi zj j k) (PartsBelow job i zi zj j (k + 1)) a b (λ x p. by x p (part_cases job i zi zj j k x p)) first
-  where
-    meets : (x : Contact) → IsContact job x → x ≡ contact_of i zi k zj j → ZonesMeet (zone_at job i zi) (part_at job k) (zone_at job j zj)
-    meets x is e = subst (λ (c : Contact). ZonesMeet (zone_at job c.i c.zi) (part_at job c.part) (zone_at job c.j c.zj)) e is.meet
-
-    by : (x : Contact) → PartsBelow job i zi zj j (k + 1) x → PartsBelow job i zi zj j k x ⊎ (x ≡ contact_of i zi k zj j) → PartsBelow job i zi zj j k x
-    by x p (inl q) = q
-    by x p (inr e) = absurd (apart (meets x p.0.0.is e))
+    settles_then job (PartsBelow job i zi zj j k) (IsThe job (contact_of i zi k zj j)) (PartsBelow job i zi zj j (k + 1)) a b c (λ x p. (p.0.0.is, part_cases job i zi zj j k x p)) first second
 
 pub parts_end : (job : Job) (i zi zj j : ℕ) (a b : List Contact) → Settles job (PartsBelow job i zi zj j (length job.printer.parts)) a b → Settles job (AtZones job i zi zj j) a b
 parts_end job i zi zj j a b s = settles_same job (PartsBelow job i zi zj j (length job.printer.parts)) (AtZones job i zi zj j) a b (λ x p. (p, p.0.is.part_in)) s
@@ -205,3 +215,15 @@ later_more job i j z a b c first second =
 
 pub later_end : (job : Job) (i j : ℕ) (kept : List Contact) → Settles job (LaterBelow job i j (length (zones_of job j))) [] kept → (c : Contact) → IsOf job i j c → IsCovered job kept c
 later_end job i j kept s c is = s.done c (is, subst (λ t. c.zj < length (zones_of job t)) is.later is.is.zj_in)
+
+-- ---- one of a list
+pub in_at : {A : Type 0} (xs : List A) (k : ℕ) (x : A) → k < length xs → x ≡ get_or xs k x → In x xs
+in_at [] k x l e = absurd (omega (arith, l))
+in_at (y ∷ xs) zero x l e = inl e
+in_at (y ∷ xs) (suc k) x l e = inr (in_at xs k x (omega (arith, l)) e)
+
+pub covered_at : (job : Job) (kept : List Contact) (c : Contact) (k : ℕ) (x : Contact) → k < length kept → x ≡ get_or kept k x → All (IsOf job c.i c.j) kept → Covers (points_of job x) (points_of job c) → IsCovered job kept c
+covered_at job kept c k x l e all covers =
+    let i = in_at kept k x l e in
+    let of = All-in (IsOf job c.i c.j) kept x all i in
+    record { by = x; member = i; is = of.is; earlier = of.earlier; later = of.later; covers = covers }

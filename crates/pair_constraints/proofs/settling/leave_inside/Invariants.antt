@@ -10,5 +10,5 @@ invariant-loop-k l = record {
   leaves : Leaves l.job l.contact l.fn.kept.items l.kept.items;
 }
 
-abbrev pub measure-loop-k : goal.measure-loop-k
-measure-loop-k l = length l.kept.items - l.k
+abbrev pub decreases-loop-k : goal.decreases-loop-k
+decreases-loop-k l = length l.kept.items - l.k
