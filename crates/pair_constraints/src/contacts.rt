@@ -33,7 +33,8 @@ fn row_of(alloc: Global, job: &Job, nested: &Nested, i: u32) -> Result<Items<Ite
 {
     let mut row = Items::new(alloc);
     for j in 0..object_count(job) {
-        row.push(maximal(alloc, job, nested, i, j)?)?;
+        let pair = maximal(alloc, job, nested, i, j)?;
+        row.push(pair)?;
     }
     Ok(row)
 }
@@ -44,7 +45,8 @@ fn rows_of(alloc: Global, job: &Job, nested: &Nested) -> Result<Items<Items<Item
 {
     let mut rows = Items::new(alloc);
     for i in 0..object_count(job) {
-        rows.push(row_of(alloc, job, nested, i)?)?;
+        let row = row_of(alloc, job, nested, i)?;
+        rows.push(row)?;
     }
     Ok(rows)
 }

@@ -69,7 +69,8 @@ fn settle(
         return Ok(());
     }
     leave_inside(kept, job, nested, &contact);
-    put(kept, contact)
+    put(kept, contact)?;
+    Ok(())
 }
 
 fn zones_of_contact_meet(job: &Job, contact: &Contact) -> bool

@@ -129,3 +129,12 @@ no_pair job i j same = record {
   enough = λ c is. absurd (is.is.apart (is.earlier ∙ same ∙ sym is.later));
   apart = λ k l d h m. absurd (omega (arith, m));
 }
+
+in_take : {A : Type 0} (xs : List A) (n : ℕ) (x : A) → length xs ≤ n → In x xs → In x (take n xs)
+in_take [] n x l i = absurd i
+in_take (y ∷ xs) zero x l i = absurd (omega (arith, l))
+in_take (y ∷ xs) (suc n) x l (inl e) = inl e
+in_take (y ∷ xs) (suc n) x l (inr i) = inr (in_take xs n x (omega (arith, l)) i)
+
+pub all_taken : {A : Type 0} (P : A → Type 0) (xs : List A) (n : ℕ) → length xs ≤ n → All P (take n xs) → All P xs
+all_taken P xs n l all = All-from_in P xs (λ x i. All-in P (take n xs) x all (in_take xs n x l i))

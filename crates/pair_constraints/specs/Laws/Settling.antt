@@ -9,6 +9,7 @@ use Rattle.std.proofs.lemmas.Int.{ints}
 use Rattle.std.proofs.lemmas.Bool.{cases_lt}
 use Rattle.integer_laws.specs.Members.{In}
 use Rattle.integer_laws.specs.Laws.Members.{All-in, All-from_in, In-append_left, In-append_right}
+use Rattle.model_laws.specs.Laws.Collisions.{any_default}
 use Rattle.search_laws.specs.Covering.{Covers, IsCovered}
 use Rattle.search_laws.specs.Laws.Gaps.{area_of_contact}
 use Rattle.seq_model.specs.Contacts.{IsContact, ZonesMeet, points_of}
@@ -227,3 +228,6 @@ covered_at job kept c k x l e all covers =
     let i = in_at kept k x l e in
     let of = All-in (IsOf job c.i c.j) kept x all i in
     record { by = x; member = i; is = of.is; earlier = of.earlier; later = of.later; covers = covers }
+
+pub covered_get : (job : Job) (kept : List Contact) (c : Contact) (k : ℕ) (d : Contact) → k < length kept → All (IsOf job c.i c.j) kept → Covers (points_of job (get_or kept k d)) (points_of job c) → IsCovered job kept c
+covered_get job kept c k d l all covers = covered_at job kept c k (get_or kept k d) l (any_default kept k d (get_or kept k d) l) all covers

@@ -1,6 +1,6 @@
 use Rattle.std.proofs.Common.{◌≡◌, All, AllPairs, List, subst, sym}
 use Rattle.pair_constraints.specs.Maximal.{AreApart, contacts_of}
-use Rattle.pair_constraints.specs.Laws.Parting.{AreKeptOf, apart_pushed, kept_pushed, settles_new}
+use Rattle.pair_constraints.specs.Laws.Parting.{AreKeptOf, IsShort, apart_pushed, kept_pushed, settles_new}
 use Rattle.pair_constraints.specs.Laws.Settling.{Settles}
 use Rattle.pair_constraints.specs.declared.kept.Kept.{Kept}
 use Rattle.pair_constraints.proofs.maximal.settle_kept.Goals as goal
@@ -16,7 +16,7 @@ returns-clause-apart c =
     let x = c.in_ok-new.new in
     subst (AllPairs (AreApart c.args.job.now)) (sym c.in_ok-put.ensures)
     (apart_pushed c.args.job.now x c.args.contact.now c.args.kept.now.items c.leave_covered.new.kept.items c.in_ok-new.ensures.same c.leave_covered.ensures.apart c.leave_covered.ensures.only
-    (c.is_covered.ensures.none c.if-is_covered.false) c.leave_covered.ensures.none)
+    (subst (All (IsShort c.args.job.now c.args.contact.now)) c.deref.ensures.value (c.is_covered.ensures.none c.if-is_covered.false)) c.leave_covered.ensures.none)
 
 pub returns-clause-settles : goal.returns-clause-settles
 returns-clause-settles c =
