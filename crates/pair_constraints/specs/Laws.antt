@@ -1,6 +1,7 @@
 -- Lemmas over the definitions, for proofs to cite: nothing here has to be believed.
 pub mod Covering
 pub mod Firsts
+pub mod KeptRows
 pub mod Nesting
 pub mod Numbered
 pub mod Pairs

@@ -19,6 +19,7 @@ mod maximal;
 mod nesting;
 mod overlaps;
 mod points;
+mod rows;
 mod settling;
 mod testing;
 

@@ -1,0 +1,30 @@
+-- The row of a kept side, from what is kept.
+--
+--   kept_row      it is the row of the system
+use Rattle.std.proofs.Common.{◌≡◌, ℕ, ◌<◌, length, get_or, ap, ap₂, sym, ◌∙◌, arith, ℤ, ◌+ℤ◌, ◌-ℤ◌, ◌*ℤ◌}
+use Rattle.integer_laws.specs.Members.{In}
+use Rattle.model_laws.specs.Laws.Collisions.{any_default}
+use Rattle.seq_model.specs.Contacts.{points_of}
+use Rattle.seq_model.specs.Jobs.{object_at}
+use Rattle.seq_model.specs.Sides.{along, greatest_along}
+use Rattle.seq_model.specs.Systems.{pair_row, side_constant, side_row}
+use Rattle.seq_model.specs.declared.job.Job.{Job}
+use Rattle.seq_model.specs.declared.printer.Spot.{Spot}
+use Rattle.pair_constraints.specs.Keeping.{IsKept, shift_at}
+use Rattle.pair_constraints.specs.Laws.Settling.{in_at}
+use Rattle.pair_constraints.specs.declared.kept.Kept.{Kept}
+use Rattle.pair_constraints.specs.declared.limits.Limit.{Limit}
+
+constant_is : (job : Job) (e : ℕ) (k : Kept) (l : Limit) → IsKept job k → In l k.limits → along l.dir k.shift -ℤ l.most ≡ side_constant job e k.contact l.dir
+constant_is job e k l is i = ap₂ (λ (s : Spot) (g : ℤ). along l.dir s -ℤ g) is.shift (is.limits.most l i)
+
+same_row : (job : Job) (c g x v y w : ℤ) (i j m n : ℕ) → c ≡ g → x ≡ v → y ≡ w → i ≡ m → j ≡ n → pair_row job c x y i j ≡ pair_row job g v w m n
+same_row job c g x v y w i j m n p q r s t =
+    ap (λ z. pair_row job z x y i j) p ∙ ap (λ z. pair_row job g z y i j) q ∙ ap (λ z. pair_row job g v z i j) r ∙ ap (λ z. pair_row job g v w z j) s ∙ ap (λ z. pair_row job g v w m z) t
+
+pub kept_row : (job : Job) (e : ℕ) (k : Kept) (side : ℕ) (l d : Limit) (c x y : ℤ) (i j : ℕ) → IsKept job k → side < length k.limits → l ≡ get_or k.limits side l
+    → c ≡ along l.dir k.shift -ℤ l.most → x ≡ l.dir.x → y ≡ l.dir.y → i ≡ k.contact.i → j ≡ k.contact.j
+    → pair_row job c x y i j ≡ side_row job e k.contact (get_or k.limits side d).dir
+kept_row job e k side l d c x y i j is h at p q r s t =
+    same_row job c (side_constant job e k.contact l.dir) x l.dir.x y l.dir.y i j k.contact.i k.contact.j (p ∙ constant_is job e k l is (in_at k.limits side l h at)) q r s t
+    ∙ ap (λ (m : Limit). side_row job e k.contact m.dir) (at ∙ any_default k.limits side l d h)
