@@ -12,8 +12,8 @@ pub struct SolvedPoint<'a> {
     pub narrow: bool,
 }
 
-fn is_small(n: i64) -> bool
-    ensures { IsTrue result → IsSmall n }
+fn is_small(n: &i64) -> bool
+    ensures { IsTrue result → IsSmall n.now }
 {
     n.unsigned_abs() < 137_438_953_472
 }
@@ -22,7 +22,7 @@ fn are_small(nums: &[i64]) -> bool
     ensures { IsTrue result → All IsSmall nums.now }
 {
     for n in nums {
-        if !is_small(*n) {
+        if !is_small(n) {
             return false;
         }
     }
