@@ -6,7 +6,6 @@ use Rattle.std.specs.Prelude.{◌≡◌, ◌<◌, ◌^◌, List, map, unsigned_a
 use Rattle.integer_laws.specs.Members.{In}
 use Rattle.seq_model.specs.Sides.{greatest_along, AreSides}
 use Rattle.seq_model.specs.declared.printer.Spot.{Spot}
-use Rattle.seq_model.specs.declared.tree.Dir.{Dir}
 use Rattle.outline_laws.specs.Directions.{IsShort}
 use Rattle.pair_constraints.specs.declared.limits.Limit.{Limit}
 

@@ -8,7 +8,7 @@
 --   kept_contacts c       the contacts of all pairs
 --   AreContacts job c     a row for each earlier object and a pair for each later one
 --   IsMaximal job c       only what it covers itself covers it
-use Rattle.std.specs.Prelude.{◌≡◌, ◌≢◌, ℕ, ◌<◌, List, [], length, map, All, AllPairs, slice_index_or}
+use Rattle.std.specs.Prelude.{◌≡◌, ℕ, ◌<◌, List, [], length, map, All, AllPairs, slice_index_or}
 use Rattle.std.specs.List.{flat_map}
 use Rattle.search_laws.specs.Covering.{Covers, IsCovered}
 use Rattle.seq_model.specs.Contacts.{IsContact, points_of}

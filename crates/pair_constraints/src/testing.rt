@@ -87,7 +87,10 @@ fn is_below(limit: &Limit, gap: &Gap) -> bool
     requires gap { FitsGap gap.now }
     ensures { result ≡ is_under (point_of gap.now) limit.now }
 {
-    let value = narrow_sum(narrow_product(limit.dir.x, gap.x), narrow_product(limit.dir.y, gap.y));
+    let value = narrow_sum(
+        narrow_product(limit.dir.x, gap.x),
+        narrow_product(limit.dir.y, gap.y),
+    );
     is_short(value, limit.most, gap)
 }
 
@@ -180,7 +183,12 @@ fn narrow_ahead(at: &SolvedPoint, later: usize, earlier: usize, shift: i64) -> i
     ensures value { result ≡ ahead (values_of at.now) later earlier shift }
     ensures size { unsigned_abs result < 2 ^ 40 }
 {
-    narrow_step(num_at(at, later), num_at(at, earlier), narrow_den(at), shift)
+    narrow_step(
+        num_at(at, later),
+        num_at(at, earlier),
+        narrow_den(at),
+        shift,
+    )
 }
 
 fn narrow_den(at: &SolvedPoint) -> i64

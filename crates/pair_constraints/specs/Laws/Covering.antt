@@ -6,11 +6,10 @@
 --   Limit                 a direction with the greatest value along it
 --   AreLimits S ls        the sides of S with their greatest values
 --   inside_limits         a point is inner to S exactly where it is below all limits
-use Rattle.std.proofs.Common.{◌≡◌, List, [], ◌∷◌, map, refl, ap, ap₂, sym, subst, arith, ℤ, ◌+ℤ◌, ◌*ℤ◌, ◌≤ℤ◌, ◌<ℤ◌, ◌↔◌, inl, inr, Bool, true, false, not, ◌&&◌, ◌<◌, ◌^◌, unsigned_abs}
+use Rattle.std.proofs.Common.{◌≡◌, List, [], ◌∷◌, map, refl, ap, ap₂, sym, subst, arith, ℤ, ◌+ℤ◌, ◌*ℤ◌, ◌≤ℤ◌, ◌<ℤ◌, ◌↔◌, inl, inr, Bool, true, false, not, ◌&&◌}
 use Rattle.std.specs.Prelude.{int_lt}
 use Rattle.std.specs.List.{list_all}
 use Rattle.std.proofs.lemmas.Bool.Decides.{nat_tests}
-use Rattle.outline_laws.specs.Directions.{IsShort}
 use Rattle.std.proofs.lemmas.Int.{ints}
 use Rattle.integer_laws.specs.Divisors.{IsPrimitive}
 use Rattle.integer_laws.specs.Members.{In}

@@ -4,13 +4,11 @@
 use Rattle.std.proofs.Common.{◌≡◌, ℕ, ◌<◌, List, length, get_or, ap, ap₂, ◌∙◌, ℤ, ◌-ℤ◌}
 use Rattle.integer_laws.specs.Members.{In}
 use Rattle.model_laws.specs.Laws.Collisions.{any_default}
-use Rattle.seq_model.specs.Contacts.{points_of}
-use Rattle.seq_model.specs.Jobs.{object_at}
-use Rattle.seq_model.specs.Sides.{along, greatest_along}
+use Rattle.seq_model.specs.Sides.{along}
 use Rattle.seq_model.specs.Systems.{pair_row, side_constant, side_row}
 use Rattle.seq_model.specs.declared.job.Job.{Job}
 use Rattle.seq_model.specs.declared.printer.Spot.{Spot}
-use Rattle.pair_constraints.specs.Keeping.{IsKept, shift_at}
+use Rattle.pair_constraints.specs.Keeping.{IsKept}
 use Rattle.pair_constraints.specs.Laws.Settling.{in_at}
 use Rattle.pair_constraints.specs.declared.kept.Kept.{Kept}
 use Rattle.pair_constraints.specs.declared.limits.Limit.{Limit}

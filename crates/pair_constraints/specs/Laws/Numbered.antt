@@ -4,7 +4,7 @@
 --   by-push           one more
 --   by_none           no members
 --   by_at             one of them
-use Rattle.std.proofs.Common.{◌≡◌, ℕ, zero, suc, ◌+◌, ◌<◌, List, [], ◌∷◌, ◌++◌, length, get_or, arith}
+use Rattle.std.proofs.Common.{ℕ, zero, suc, ◌<◌, List, [], ◌∷◌, ◌++◌, length, get_or, arith}
 
 abbrev pub AreBy : {X : Type 0} → (ℕ → X → Type 0) → List X → Type 0
 AreBy {X} P xs = (k : ℕ) (d : X) → k < length xs → P k (get_or xs k d)

@@ -7,7 +7,7 @@
 --   free-remove                those before it stay free
 --   settles_kept               one more is kept
 --   kept_covers, within_more   one of them, and one more of them
-use Rattle.std.proofs.Common.{◌≡◌, ℕ, zero, suc, ◌+◌, ◌<◌, ◌≤◌, List, [], ◌∷◌, ◌++◌, length, map, get_or, remove, take, refl, sym, subst, ◌∙◌, arith, All, AllPairs, ◌⊎◌, inl, inr}
+use Rattle.std.proofs.Common.{◌≡◌, ℕ, zero, suc, ◌+◌, ◌<◌, ◌≤◌, List, [], ◌∷◌, ◌++◌, length, get_or, remove, take, refl, sym, subst, ◌∙◌, arith, All, AllPairs, ◌⊎◌, inl, inr}
 use Rattle.std.specs.List.{AllWithin}
 use Rattle.std.proofs.lemmas.List.Edits.{get_or-remove_below}
 use Rattle.std.proofs.lemmas.List.Elements.{All-map, All-more, All-nil, All-push, All-take, All-weaker}

@@ -2,19 +2,15 @@
 --
 --   gap D e l             place l less place e, over the scale D
 --   overlap_at_places     for two places over one scale
-use Rattle.std.proofs.Common.{◌≡◌, ℕ, ◌<◌, ◌^◌, unsigned_abs, List, arith, ℤ, pos, ◌-ℤ◌, ◌*ℤ◌, ◌≤ℤ◌, ◌↔◌}
+use Rattle.std.proofs.Common.{◌≡◌, List, arith, ℤ, pos, ◌-ℤ◌, ◌*ℤ◌, ◌≤ℤ◌, ◌↔◌}
 use Rattle.std.proofs.lemmas.Int.{ints}
 use Rattle.integer_laws.specs.Laws.Ring.{expand}
-use Rattle.seq_model.specs.Contacts.{difference, points_of, IsContact}
+use Rattle.seq_model.specs.Contacts.{difference}
 use Rattle.seq_model.specs.Outlines.{Inner}
 use Rattle.seq_model.specs.Points.{Point, IsPoint, minus, place_point}
 use Rattle.seq_model.specs.Scenes.{Overlap}
-use Rattle.seq_model.specs.Splits.{Values, ContactCollidesAt}
-use Rattle.seq_model.specs.Systems.{place_of}
-use Rattle.seq_model.specs.declared.job.Job.{Job}
 use Rattle.seq_model.specs.declared.plan.Place.{Place}
 use Rattle.seq_model.specs.declared.printer.Spot.{Spot}
-use Rattle.seq_model.specs.declared.tree.Contact.{Contact}
 use Rattle.model_laws.specs.Laws.SamePoints.{mean_of_same, minus_is_point}
 use Rattle.outline_laws.specs.Laws.Overlaps.{inner_of_overlap, overlap_of_inner}
 

@@ -9,13 +9,13 @@
 --   is_behind S u v          no member lies to the right of the way from u to v
 --   are_behind S u vs        of no way from u along vs
 --   outreaches_of_behind     then the outline outreaches them
-use Rattle.std.proofs.Common.{◌≡◌, ℕ, ◌≤◌, List, [], ◌∷◌, length, refl, sym, subst, ◌∙◌, arith, ℤ, pos, neg_ℤ, ◌+ℤ◌, ◌-ℤ◌, ◌*ℤ◌, ◌≤ℤ◌, ◌<ℤ◌, Bool, true, not, ◌&&◌, inl, inr, unsigned_abs}
+use Rattle.std.proofs.Common.{◌≡◌, ◌≤◌, List, [], ◌∷◌, length, refl, sym, subst, arith, ℤ, pos, ◌+ℤ◌, ◌-ℤ◌, ◌*ℤ◌, ◌≤ℤ◌, ◌<ℤ◌, Bool, true, not, ◌&&◌, inl, unsigned_abs}
 use Rattle.std.specs.Prelude.{int_lt}
 use Rattle.std.proofs.lemmas.Int.{ints, by_lt_z}
 use Rattle.std.proofs.lemmas.Bool.Decides.{nat_tests}
 use Rattle.integer_laws.specs.Divisors.{IsPrimitive}
 use Rattle.integer_laws.specs.Laws.Members.{In-from_contains}
-use Rattle.integer_laws.specs.Laws.Order.{add_le, add_lt_le, mul_le, le_from, lt_from, same_from, mul_same, add_same}
+use Rattle.integer_laws.specs.Laws.Order.{add_lt_le, mul_le, lt_from}
 use Rattle.integer_laws.specs.Laws.Ring.{expand}
 use Rattle.integer_laws.specs.Laws.Weights.{total_positive}
 use Rattle.integer_laws.specs.Members.{In}
@@ -25,12 +25,12 @@ use Rattle.outline_laws.specs.Corners.{AreCorners, HasArea, turn}
 use Rattle.outline_laws.specs.Edges.{last_in_list, raw, Steps}
 use Rattle.outline_laws.specs.Laws.Clear.{greatest_sum}
 use Rattle.outline_laws.specs.Laws.Differences.{back, back_primitive}
-use Rattle.outline_laws.specs.Laws.Edges.{area_of_turns, edge_step, from_in, HasNormal, IsEdge, normal_of_side}
+use Rattle.outline_laws.specs.Laws.Edges.{area_of_turns, edge_step, from_in, IsEdge, normal_of_side}
 use Rattle.outline_laws.specs.Laws.Sides.{edge_most, greatest_of, inner_of_free}
 use Rattle.search_laws.specs.Covering.{Covers}
 use Rattle.seq_model.specs.Contacts.{difference}
 use Rattle.seq_model.specs.Outlines.{Inner}
-use Rattle.seq_model.specs.Points.{Point, IsPoint}
+use Rattle.seq_model.specs.Points.{Point}
 use Rattle.seq_model.specs.Sides.{along, greatest_along, Side, Beyond}
 use Rattle.seq_model.specs.declared.printer.Spot.{Spot}
 use Rattle.seq_model.specs.declared.tree.Dir.{Dir}

@@ -4,13 +4,11 @@
 --   AreRows job rows      for each earlier object its row
 --   contacts_are          they are the contacts of the job
 --   contacts_enough       and they cover all
-use Rattle.std.proofs.Common.{◌≡◌, ℕ, zero, suc, ◌<◌, List, [], ◌∷◌, length, get_or, map, flat_map, refl, sym, subst, arith, inl, inr}
+use Rattle.std.proofs.Common.{◌≡◌, ℕ, zero, suc, ◌<◌, List, [], ◌∷◌, length, get_or, flat_map, refl, sym, subst, arith, inl, inr}
 use Rattle.integer_laws.specs.Members.{In}
 use Rattle.integer_laws.specs.Laws.Members.{In-append_left, In-append_right, In-map, In-map_cases}
 use Rattle.search_laws.specs.Covering.{AreEnough, IsCovered}
-use Rattle.seq_model.specs.Contacts.{IsContact}
 use Rattle.seq_model.specs.declared.job.Job.{Job}
-use Rattle.seq_model.specs.declared.tree.Contact.{Contact}
 use Rattle.pair_constraints.specs.Maximal.{AreContacts, IsPair, contacts_of, kept_contacts, kept_of}
 use Rattle.pair_constraints.specs.Laws.Numbered.{AreBy}
 use Rattle.pair_constraints.specs.declared.contacts.Contacts.{Contacts}

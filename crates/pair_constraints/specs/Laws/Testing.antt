@@ -8,7 +8,7 @@
 --   is_met q k           and of the limits of the kept contact
 --   gap_is               that gap is the gap of the contact at the point
 --   met_where_collides   is_met there exactly where the contact collides
-use Rattle.std.proofs.Common.{◌≡◌, ◌≢◌, ℕ, ◌+◌, ◌*◌, ◌<◌, ◌^◌, List, get_or, refl, ap, ap₂, sym, subst, ◌∙◌, arith, ℤ, pos, neg_ℤ, ◌+ℤ◌, ◌-ℤ◌, ◌*ℤ◌, ◌≤ℤ◌, ◌<ℤ◌, ◌↔◌, Bool, true, false, ◌&&◌, unsigned_abs}
+use Rattle.std.proofs.Common.{◌≡◌, ℕ, ◌+◌, ◌*◌, ◌<◌, ◌^◌, List, get_or, refl, ap, ap₂, sym, subst, ◌∙◌, arith, ℤ, pos, neg_ℤ, ◌+ℤ◌, ◌-ℤ◌, ◌*ℤ◌, ◌≤ℤ◌, ◌<ℤ◌, ◌↔◌, Bool, true, ◌&&◌, unsigned_abs}
 use Rattle.std.specs.Prelude.{int_lt}
 use Rattle.std.specs.List.{list_all}
 use Rattle.std.proofs.lemmas.Int.{ints}
@@ -24,7 +24,7 @@ use Rattle.seq_model.specs.Contacts.{IsContact, points_of}
 use Rattle.seq_model.specs.Jobs.{object_at}
 use Rattle.seq_model.specs.Outlines.{Inner}
 use Rattle.seq_model.specs.Plates.{share_of, half_left}
-use Rattle.seq_model.specs.Points.{Point, IsPoint}
+use Rattle.seq_model.specs.Points.{Point}
 use Rattle.seq_model.specs.Sides.{greatest_along}
 use Rattle.seq_model.specs.Splits.{Values, ContactCollidesAt}
 use Rattle.seq_model.specs.declared.job.Job.{Job}

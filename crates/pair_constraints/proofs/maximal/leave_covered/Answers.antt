@@ -1,4 +1,4 @@
-use Rattle.std.proofs.Common.{◌≡◌, ◌+◌, ◌<◌, ◌≤◌, List, All, AllPairs, arith, length, get_or, remove, rules, subst, sym}
+use Rattle.std.proofs.Common.{◌<◌, ◌≤◌, List, All, AllPairs, arith, length, subst, sym}
 use Rattle.std.specs.List.{AllWithin}
 use Rattle.std.proofs.lemmas.List.Edits.{length-remove}
 use Rattle.std.proofs.lemmas.List.Quantifiers.{all_pairs_remove}

@@ -1,4 +1,4 @@
-use Rattle.std.proofs.Common.{◌∙◌, All, subst, sym}
+use Rattle.std.proofs.Common.{All, subst, sym}
 use Rattle.search_laws.specs.Covering.{IsCovered}
 use Rattle.pair_constraints.specs.Maximal.{IsPair, contacts_of}
 use Rattle.pair_constraints.specs.Laws.Parting.{pair_of}

@@ -1,4 +1,4 @@
-use Rattle.std.proofs.Common.{◌≡◌, ◌++◌, drop, map}
+use Rattle.std.proofs.Common.{◌≡◌, ◌++◌, drop}
 use Rattle.pair_constraints.specs.Laws.Nesting.{corners_of_zones}
 use Rattle.pair_constraints.proofs.nesting.outlines_of_zones.Given as goal
 

@@ -1,4 +1,4 @@
-use Rattle.std.proofs.Common.{◌≡◌, ◌<◌, ◌≤◌, List, All, arith, length, get_or, remove, subst, sym}
+use Rattle.std.proofs.Common.{◌<◌, ◌≤◌, List, All, arith, length, subst, sym}
 use Rattle.std.proofs.lemmas.List.Edits.{length-remove}
 use Rattle.search_laws.specs.Covering.{Covers}
 use Rattle.seq_model.specs.Contacts.{points_of}

@@ -1,4 +1,4 @@
-use Rattle.std.proofs.Common.{◌≡◌, List, All, refl, subst, sym}
+use Rattle.std.proofs.Common.{◌≡◌, All, refl, subst, sym}
 use Rattle.std.proofs.lemmas.List.Elements.{All-push}
 use Rattle.seq_model.specs.Contacts.{IsContact}
 use Rattle.seq_model.specs.declared.job.Job.{Job}
