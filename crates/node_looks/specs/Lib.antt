@@ -1,1 +1,4 @@
+pub mod Held
 pub mod Looks
+pub mod Points
+pub mod Scaled

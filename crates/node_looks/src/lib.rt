@@ -5,5 +5,9 @@
 #![tactic(auto)]
 
 mod looks;
+mod orders;
+mod plans;
+mod points;
+mod splits;
 
 pub use looks::{Look, Looks};

@@ -1,0 +1,4 @@
+pub mod OrderLaws
+pub mod RegionLaws
+pub mod Scaling
+pub mod SplitLaws
