@@ -5,6 +5,7 @@ use Rattle.std.proofs.lemmas.List.Elements.{AllZip-get_or, All-head, All-tail, A
 use Rattle.std.proofs.lemmas.Slice.Zip.{AllZip-long}
 use Rattle.std.specs.List.{AllZip}
 use Rattle.node_looks.specs.Looks.{IsVisit, ClosesBy, SplitsBy}
+use Rattle.pair_constraints.specs.Laws.Pairs.{few_of}
 use Rattle.plan_laws.specs.Looking.{OnPath, IsOnOrEarned, EarnsPair}
 use Rattle.search_laws.specs.Laws.FewSides.{few_at_contact}
 use Rattle.search_laws.specs.Laws.SideCounts.{three_at_contact}
@@ -105,3 +106,11 @@ pub around_known : (objects : List ℕ) (k : ℕ) → All (λ o. o < 16) objects
 around_known [] k all l = absurd (omega arith)
 around_known (x ∷ xs) k all l =
     All-push (λ o. o < 16) xs x (All-tail (λ o. o < 16) x xs all) (All-head (λ o. o < 16) x xs all) k 0 (omega (arith, l, length-append xs (x ∷ [])))
+
+pub zones_fit : (job : Job) (c : Contact) → IsContact job c → (c.zi < 2 ^ 32) × (c.zj < 2 ^ 32)
+zones_fit job c is =
+    let a = few_of job c.i is.i_in in
+    let b = few_of job c.j is.j_in in
+    let z = is.zi_in in
+    let w = is.zj_in in
+    (omega (arith, a, z), omega (arith, b, w))

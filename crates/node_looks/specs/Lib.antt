@@ -1,3 +1,4 @@
+pub mod Candidates
 pub mod Held
 pub mod Looks
 pub mod Points

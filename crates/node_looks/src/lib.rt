@@ -4,10 +4,13 @@
 //! `IsLook` says what each answer shows. The loop above keeps nodes, paths and the budget, and asks a `Looks` about each node.
 #![tactic(auto)]
 
+mod completing;
+mod hits;
 mod looks;
 mod orders;
 mod plans;
 mod points;
 mod splits;
+mod survey;
 
 pub use looks::{Look, Looks};

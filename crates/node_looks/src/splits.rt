@@ -4,17 +4,23 @@ ghost use Rattle.std.specs.Prelude.{◌≡◌, ◌<◌, ◌≤◌, ◌++◌, [],
 ghost use Rattle.node_looks.specs.Held.{IsTable};
 ghost use Rattle.node_looks.specs.Looks.{IsLook, IsVisit, ClosesBy, SplitsBy};
 ghost use Rattle.plan_laws.specs.Looking.{EarnsPair, IsOnOrEarned, OnPath};
-ghost use Rattle.seq_model.specs.Contacts.{IsContact, points_of};
+ghost use Rattle.node_looks.specs.Points.{values};
+ghost use Rattle.seq_model.specs.Contacts.{IsContact, difference, points_of};
+ghost use Rattle.seq_model.specs.Parts.{IsSoundPart};
 ghost use Rattle.seq_model.specs.Sides.{AreSides};
-ghost use Rattle.seq_model.specs.Splits.{Earned};
+ghost use Rattle.seq_model.specs.Soundness.{IsSoundZone};
+ghost use Rattle.seq_model.specs.Splits.{ContactCollidesAt, Earned, IsOn};
 ghost use Rattle.seq_model.specs.Trees.{IsCycle, IsSoundNode};
 ghost use Rattle.seq_model.specs.declared.tree.Choice.TheVariants as Choices;
 ghost use Rattle.seq_model.specs.declared.tree.Node.TheVariants as Nodes;
 
 use crate::Look;
 use crate::orders::is_on;
+use crate::points::SystemPoint;
+use difference_polygon::sides_of;
 use owned_lists::Items;
-use seq_model::{Choice, Contact, Dir, Job, Node};
+use seq_model::{Choice, Contact, Dir, Job, Node, Part, Zone};
+use seq_num::NoMemory;
 use std::alloc::{AllocError, Global};
 
 /// The numbers below n, rising.
@@ -171,4 +177,41 @@ pub(crate) fn cycle_look(
         Some((a, b)) => order_split(alloc, job, extent, path, a.min(b), a.max(b)),
         None => close_cycle(alloc, job, extent, path, objects),
     }
+}
+
+fn sides_between(alloc: Global, a: &Zone, b: &Zone, part: &Part) -> Result<Vec<Dir>, NoMemory>
+    requires a { IsSoundZone a.now }
+    requires b { IsSoundZone b.now }
+    requires part { IsSoundPart part.now }
+    ensures { IfOk result (λ dirs. AreSides (difference a.now.corners b.now.corners part.now.corners) dirs.items) }
+{
+    sides_of(alloc, a.corners.as_slice(), b.corners.as_slice(), part.corners.as_slice())
+}
+
+fn sides_of_contact(alloc: Global, job: &Job, contact: &Contact) -> Result<Vec<Dir>, NoMemory>
+    requires { IsContact job.now contact.now }
+    ensures { IfOk result (λ dirs. AreSides (points_of job.now contact.now) dirs.items) }
+{
+    let a = &job.objects.as_slice()[contact.i as usize].zones.as_slice()[contact.zi as usize];
+    let b = &job.objects.as_slice()[contact.j as usize].zones.as_slice()[contact.zj as usize];
+    let part = &job.printer.parts.as_slice()[contact.part as usize];
+    sides_between(alloc, a, b, part)
+}
+
+/// The split by the sides of a contact that collides at a point of the path.
+pub(crate) fn open_contact(
+    alloc: Global,
+    job: &Job,
+    extent: u32,
+    path: &[Choice],
+    at: &SystemPoint,
+    contact: &Contact,
+) -> Result<Look, NoMemory>
+    requires on { IsOn job.now extent path.now (values at.now) }
+    requires ready { OnPath path.now contact.now.i contact.now.j }
+    requires collides { ContactCollidesAt job.now extent (values at.now) contact.now }
+    ensures { IfOk result (IsLook job.now extent path.now) }
+{
+    let dirs = sides_of_contact(alloc, job, contact)?;
+    Ok(side_split(alloc, job, extent, path, contact, &dirs)?)
 }
