@@ -68,16 +68,17 @@ pub survey_kept : (job : Job) (e : ℕ) (path : List Choice) (at : Values) (k n 
     → IsSurveyed job e path at k (Some c) forced → IsSurveyed job e path at n (Some c) forced
 survey_kept job e path at k n c forced is = record { each = is.each; found = is.found }
 
+abbrev nothing : Option Candidate
+nothing = None
+
+never_some : IsSome nothing → ⊥
+never_some h = cc
+
 pub survey_split : (job : Job) (e : ℕ) (path : List Choice) (at : Values) (k n : ℕ) (old new : Option Candidate) (c : Candidate) (forced : List (ℕ × ℕ))
     → (new ≡ Some c) ⊎ (IsSome old × (new ≡ old)) → IsSurveyed job e path at k old forced → IsCandidate job e path at c → IsSurveyed job e path at n new forced
 survey_split job e path at k n old new c forced (inl same) is found = subst (λ b. IsSurveyed job e path at n b forced) (sym same) (survey_found job e path at k n old c forced is found)
-survey_split job e path at k n None new c forced (inr kept) is found = absurd (never kept.0)
-  where
-    none : Option Candidate
-    none = None
+survey_split job e path at k n None new c forced (inr kept) is found = absurd (never_some kept.0)
 
-    never : IsSome none → ⊥
-    never h = absurd h
 survey_split job e path at k n (Some d) new c forced (inr kept) is found = subst (λ b. IsSurveyed job e path at n b forced) (sym kept.1) (survey_kept job e path at k n d forced is)
 
 -- a number that names no pair
@@ -95,6 +96,10 @@ survey_past job e path at k None forced is none = record {
 
 pub survey_none : (job : Job) (e : ℕ) (path : List Choice) (at : Values) → IsSurveyed job e path at 0 None []
 survey_none job e path at = record { each = All-nil (IsForcedOrder job e path at); found = λ a b l m below. absurd (omega arith) }
+
+pub survey_candidate : (job : Job) (e : ℕ) (path : List Choice) (at : Values) (k : ℕ) (best : Option Candidate) (c : Candidate) (forced : List (ℕ × ℕ))
+    → IsSurveyed job e path at k best forced → best ≡ Some c → IsCandidate job e path at c
+survey_candidate job e path at k best c forced is same = (subst (λ b. IsSurveyed job e path at k b forced) same is).found
 
 -- ---- all pairs
 way_of : (job : Job) (e : ℕ) (path : List Choice) (at : Values) (forced : List (ℕ × ℕ)) → length job.objects ≤ 16 → AreSettled job e path at 256 forced

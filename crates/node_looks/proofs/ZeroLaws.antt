@@ -117,6 +117,9 @@ zero_candidate job e (Candidates.Order i j) h is =
     let down = rises job e r i j l high (λ (s : i ≡ j). absurd (omega arith)) is.4 in
     omega arith
 
+pub zero_candidate_at : (job : Job) (e : ℕ) (path : List Choice) (at : Values) (c : Candidate) → path ≡ [] → at ≡ zero_point job → HasZeroPlan job e → IsCandidate job e path at c → ⊥
+zero_candidate_at job e path at c none here h is = zero_candidate job e c h (subst (λ p. IsCandidate job e p (zero_point job) c) none (subst (λ v. IsCandidate job e path v c) here is))
+
 leads_rise : (orders : List (ℕ × ℕ)) (rank : ℕ → ℕ) → ((a b : ℕ) → Contains orders (a, b) → rank a < rank b) → (a b : ℕ) → Leads orders a b → rank a < rank b
 leads_rise orders rank rise a b (Leads.one x y h) = rise x y h
 leads_rise orders rank rise a b (Leads.more x y z h k) =

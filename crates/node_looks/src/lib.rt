@@ -6,11 +6,14 @@
 
 mod completing;
 mod hits;
+mod looking;
 mod looks;
 mod orders;
 mod plans;
 mod points;
 mod splits;
 mod survey;
+mod system;
 
+pub use looking::Looker;
 pub use looks::{Look, Looks};
