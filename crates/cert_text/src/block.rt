@@ -24,16 +24,16 @@ pub struct Head {
 #[derive(Clone, Copy, Debug, PartialEq, Eq, Error)]
 pub enum CertRead {
     /// The line of this number is ended and isn't of the due form, or a number on it is too great.
-    #[error("tree line {0}: {1:?}")]
+    #[error("the tree block is refused")]
     Line(u64, What),
     /// A multiplier on the line of this number is above 2^62 - 1.
-    #[error("tree line {0}: big")]
+    #[error("the tree block is refused")]
     Big(u64),
     /// The node on the line of this number has more than 1,000,000 splits above it.
-    #[error("tree line {0}: deep")]
+    #[error("the tree block is refused")]
     Deep(u64),
     /// The bytes end before the tree is whole, or within a line.
-    #[error("tree ends early")]
+    #[error("the tree block is refused")]
     Truncated,
     #[error("memory")]
     NoMemory,

@@ -62,7 +62,8 @@ fn wide_line<'a>(
     bytes: &'a [u8],
 ) -> Result<Option<(Wide, &'a [u8])>, AllocError>
     requires { found.old.items ≡ [] }
-    ensures { IfOk result (λ r. option_map (λ x. ((x.0, found.new.items), x.1.now)) r ≡ wide_at bytes.now) }
+    ensures { IfOk result
+        (λ r. option_map (λ x. ((x.0, found.new.items), x.1.now)) r ≡ wide_at bytes.now) }
 {
     let Some((wide, rest)) = wide_start(bytes) else {
         return Ok(None);

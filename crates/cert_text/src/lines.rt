@@ -94,7 +94,8 @@ fn form_line<'a>(
     bytes: &'a [u8],
 ) -> Result<Option<&'a [u8]>, AllocError>
     requires { found.old.items ≡ [] }
-    ensures { IfOk result (λ r. option_map (λ rest. (found.new.items, rest.now)) r ≡ form_at form bytes.now) }
+    ensures { IfOk result
+        (λ r. option_map (λ rest. (found.new.items, rest.now)) r ≡ form_at form bytes.now) }
 {
     let Some(rest) = numbers(found, b" ", form.room(), bytes)? else {
         return Ok(None);
@@ -165,7 +166,8 @@ fn unread(bytes: &[u8]) -> Stop
 #[tactic(auto, unfolding(crate::specs::Lines::formed_at))]
 fn formed(alloc: Global, form: Form, bytes: &[u8]) -> Result<(Node, &[u8]), LineFault>
     ensures read { IfOk result (λ r. formed_at form bytes.now ≡ Ok (r.0, r.1.now)) }
-    ensures stops { (stop : Stop) → result ≡ Err (LineFault.Stop stop) → formed_at form bytes.now ≡ Err stop }
+    ensures stops { (stop : Stop) → result ≡ Err (LineFault.Stop stop)
+        → formed_at form bytes.now ≡ Err stop }
 {
     let mut found = Vec::new(alloc);
     let Ok(line) = form_line(&mut found, form, bytes) else {
@@ -186,7 +188,8 @@ fn formed(alloc: Global, form: Form, bytes: &[u8]) -> Result<(Node, &[u8]), Line
 #[tactic(auto, unfolding(crate::specs::Lines::paired_at))]
 fn paired(alloc: Global, bytes: &[u8]) -> Result<(Node, &[u8]), LineFault>
     ensures read { IfOk result (λ r. paired_at bytes.now ≡ Ok (r.0, r.1.now)) }
-    ensures stops { (stop : Stop) → result ≡ Err (LineFault.Stop stop) → paired_at bytes.now ≡ Err stop }
+    ensures stops { (stop : Stop) → result ≡ Err (LineFault.Stop stop)
+        → paired_at bytes.now ≡ Err stop }
 {
     let mut found = Vec::new(alloc);
     let Ok(line) = bound_line(&mut found, bytes) else {
@@ -208,7 +211,8 @@ fn paired(alloc: Global, bytes: &[u8]) -> Result<(Node, &[u8]), LineFault>
 #[tactic(auto, unfolding(crate::specs::Lines::line_at))]
 pub(crate) fn node_line(alloc: Global, bytes: &[u8]) -> Result<(Node, &[u8]), LineFault>
     ensures read { IfOk result (λ r. line_at bytes.now ≡ Ok (r.0, r.1.now)) }
-    ensures stops { (stop : Stop) → result ≡ Err (LineFault.Stop stop) → line_at bytes.now ≡ Err stop }
+    ensures stops { (stop : Stop) → result ≡ Err (LineFault.Stop stop)
+        → line_at bytes.now ≡ Err stop }
 {
     if let Some(rest) = literal(bytes, b"order") {
         return formed(alloc, Form::Order, rest);

@@ -67,7 +67,9 @@ fn all_mults(alloc: Global, pairs: &[Pair]) -> Result<Vec<Mult>, AllocError>
 /// The multipliers of the pairs of a bound line.
 pub(crate) fn mults_of_pairs(alloc: Global, pairs: &[Pair]) -> Result<Vec<Mult>, LineFault>
     requires { All IsDue pairs.now }
-    ensures { result ≢ Err LineFault.NoMemory → result_map_both (λ m. m.items) (λ e. e) result ≡ result_map_both (λ m. m) LineFault.Stop (mults_of pairs.now) }
+    ensures { result ≢ Err LineFault.NoMemory
+        → result_map_both (λ m. m.items) (λ e. e) result
+        ≡ result_map_both (λ m. m) LineFault.Stop (mults_of pairs.now) }
 {
     if any_far(pairs) {
         return Err(LineFault::Stop(Stop::Range));

@@ -38,7 +38,8 @@ fn children(node: &Node) -> u32
 }
 
 fn put(openings: &mut Vec<Opening>, left: u32, depth: u32) -> Result<(), AllocError>
-    ensures { OnOk result (openings.new.items ≡ openings.old.items ++ record { left = left; depth = depth } ∷ []) }
+    ensures { OnOk result
+        (openings.new.items ≡ openings.old.items ++ record { left = left; depth = depth } ∷ []) }
 {
     openings.push(Opening { left, depth })?;
     Ok(())
@@ -59,8 +60,11 @@ fn first(alloc: Global) -> Result<Vec<Opening>, Fault>
 // The depth of the next child that is to come.
 fn next(openings: &mut Vec<Opening>) -> Result<Option<u32>, Fault>
     requires { All IsOpening openings.old.items }
-    ensures next { IfOk result (λ d. MatchOption d (openings.old.items ≡ []) (λ d. due (reverse openings.old.items) ≡ d ∷ due (reverse openings.new.items))) }
-    ensures depth { IfOk result (λ d. MatchOption d (openings.new.items ≡ []) (λ d. d ≤ 1_000_001)) }
+    ensures next { IfOk result
+        (λ d. MatchOption d (openings.old.items ≡ [])
+        (λ d. due (reverse openings.old.items) ≡ d ∷ due (reverse openings.new.items))) }
+    ensures depth { IfOk result
+        (λ d. MatchOption d (openings.new.items ≡ []) (λ d. d ≤ 1_000_001)) }
     ensures all { OnOk result (All IsOpening openings.new.items) }
     ensures fault { IfErr result (λ e. e ≡ Fault.NoMemory) }
 {
@@ -79,7 +83,9 @@ fn next(openings: &mut Vec<Opening>) -> Result<Option<u32>, Fault>
 fn open(openings: &mut Vec<Opening>, count: u32, depth: u32) -> Result<(), Fault>
     requires all { All IsOpening openings.old.items }
     requires depth { depth ≤ 1_000_001 }
-    ensures due { OnOk result (due (reverse openings.new.items) ≡ replicate count depth ++ due (reverse openings.old.items)) }
+    ensures due { OnOk result
+        (due (reverse openings.new.items)
+        ≡ replicate count depth ++ due (reverse openings.old.items)) }
     ensures all { OnOk result (All IsOpening openings.new.items) }
     ensures fault { IfErr result (λ e. e ≡ Fault.NoMemory) }
 {
@@ -105,7 +111,8 @@ fn keep(nodes: &mut Vec<Node>, node: Node) -> Result<(), Fault>
 fn line(alloc: Global, bytes: &[u8]) -> Result<(Node, &[u8]), LineFault>
     ensures read { IfOk result (λ r. line_at bytes.now ≡ Ok (r.0, r.1.now)) }
     ensures shorter { IfOk result (λ r. length r.1.now < length bytes.now) }
-    ensures stops { (stop : Stop) → result ≡ Err (LineFault.Stop stop) → line_at bytes.now ≡ Err stop }
+    ensures stops { (stop : Stop) → result ≡ Err (LineFault.Stop stop)
+        → line_at bytes.now ≡ Err stop }
 {
     node_line(alloc, bytes)
 }
@@ -113,7 +120,8 @@ fn line(alloc: Global, bytes: &[u8]) -> Result<(Node, &[u8]), LineFault>
 /// The nodes of one whole tree, a line each.
 pub(crate) fn read_nodes(alloc: Global, bytes: &[u8]) -> Result<Vec<Node>, Fault>
     ensures read { IfOk result (λ nodes. AreTree line_at bytes.now nodes.items) }
-    ensures refused { IfErr result (λ fault. fault ≢ Fault.NoMemory → IsRefusedAt line_at bytes.now fault) }
+    ensures refused { IfErr result
+        (λ fault. fault ≢ Fault.NoMemory → IsRefusedAt line_at bytes.now fault) }
     ensures near { IfErr result IsNear }
 {
     let mut nodes = Vec::new(alloc);

@@ -23,7 +23,9 @@ pub(crate) fn numbers<'a>(
     bytes: &'a [u8],
 ) -> Result<Option<&'a [u8]>, AllocError>
     requires { found.old.items ≡ [] }
-    ensures { IfOk result (λ r. option_map (λ rest. (found.new.items, rest.now)) r ≡ numbers_at separator.now room bytes.now) }
+    ensures { IfOk result
+        (λ r. option_map (λ rest. (found.new.items, rest.now)) r
+        ≡ numbers_at separator.now room bytes.now) }
 {
     let mut rest = bytes;
     while !ends_line(rest) {

@@ -44,7 +44,8 @@ const MOST_PAIRS: usize = 33;
 // The pairs up to the end of the line, so many at most.
 fn all_pairs<'a>(found: &mut Vec<Pair>, bytes: &'a [u8]) -> Result<Option<&'a [u8]>, AllocError>
     requires { found.old.items ≡ [] }
-    ensures { IfOk result (λ r. option_map (λ rest. (found.new.items, rest.now)) r ≡ pairs_at 33 bytes.now) }
+    ensures { IfOk result
+        (λ r. option_map (λ rest. (found.new.items, rest.now)) r ≡ pairs_at 33 bytes.now) }
 {
     let mut rest = bytes;
     while !ends_line(rest) {
@@ -84,7 +85,8 @@ pub(crate) fn bound_line<'a>(
     bytes: &'a [u8],
 ) -> Result<Option<&'a [u8]>, AllocError>
     requires { found.old.items ≡ [] }
-    ensures { IfOk result (λ r. option_map (λ rest. (found.new.items, rest.now)) r ≡ bound_at bytes.now) }
+    ensures { IfOk result
+        (λ r. option_map (λ rest. (found.new.items, rest.now)) r ≡ bound_at bytes.now) }
 {
     let Some(rest) = all_pairs(found, bytes)? else {
         return Ok(None);

@@ -62,8 +62,10 @@ fn read_block(alloc: Global, bytes: &[u8], kind: Kind) -> Result<(Head, Tree), C
 pub fn read_tree(alloc: Global, bytes: &[u8], kind: Kind) -> Result<(Head, Tree), CertRead>
     ensures read { IfOk result (λ r. IsTreeText bytes.now kind r.0 r.1) }
     ensures refused { IfErr result (λ e. e ≢ CertRead.NoMemory → IsRefusedTree bytes.now kind e) }
-    ensures refuses { (e : CertRead) → IsRefusedTree bytes.now kind e → result ≢ Err CertRead.NoMemory → result ≡ Err e }
-    ensures all { (head : Head) (tree : Tree) → IsTreeText bytes.now kind head tree → result ≢ Err CertRead.NoMemory → result ≡ Ok (head, tree) }
+    ensures refuses { (e : CertRead) → IsRefusedTree bytes.now kind e
+        → result ≢ Err CertRead.NoMemory → result ≡ Err e }
+    ensures all { (head : Head) (tree : Tree) → IsTreeText bytes.now kind head tree
+        → result ≢ Err CertRead.NoMemory → result ≡ Ok (head, tree) }
 {
     read_block(alloc, bytes, kind)
 }

@@ -16,7 +16,8 @@ fn put_count(to: &mut Vec<u8>, text: &[u8], n: u64) -> Result<(), AllocError>
 }
 
 fn put_counts(to: &mut Vec<u8>, between: &[u8], counts: &[u32]) -> Result<(), AllocError>
-    ensures { OnOk result (to.new.items ≡ to.old.items ++ numbers_text between.now (map pos counts.now)) }
+    ensures { OnOk result
+        (to.new.items ≡ to.old.items ++ numbers_text between.now (map pos counts.now)) }
 {
     for n in counts {
         put_count(to, between, u64::from(*n))?;
@@ -41,7 +42,9 @@ fn put_mults(to: &mut Vec<u8>, mults: &[Mult]) -> Result<(), AllocError>
 }
 
 fn put_side(to: &mut Vec<u8>, contact: &Contact, children: u32) -> Result<(), AllocError>
-    ensures { OnOk result (to.new.items ≡ to.old.items ++ (codes "side" ++ numbers_text (codes " ") (side_numbers contact.now children))) }
+    ensures { OnOk result
+        (to.new.items ≡ to.old.items
+        ++ (codes "side" ++ numbers_text (codes " ") (side_numbers contact.now children))) }
 {
     let Contact { i, zi, part, zj, j } = *contact;
     to.extend_from_slice(b"side")?;
@@ -79,7 +82,8 @@ fn put_nodes(to: &mut Vec<u8>, nodes: &[Node]) -> Result<(), AllocError>
 }
 
 fn put_basis(to: &mut Vec<u8>, basis: &[u32]) -> Result<(), AllocError>
-    ensures { OnOk result (to.new.items ≡ to.old.items ++ (codes " " ++ basis_text (map pos basis.now))) }
+    ensures { OnOk result
+        (to.new.items ≡ to.old.items ++ (codes " " ++ basis_text (map pos basis.now))) }
 {
     match basis.split_first() {
         None => to.extend_from_slice(b" \n"),

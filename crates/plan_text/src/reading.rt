@@ -21,13 +21,13 @@ use thiserror::Error;
 #[derive(Clone, Copy, Debug, PartialEq, Eq, Error)]
 pub enum PlanRead {
     /// The line of this number, counted from 1, is ended and isn't of the due form.
-    #[error("plan line {0}: {1:?}")]
+    #[error("the plan file is refused")]
     Line(u64, What),
     /// The bytes end before a due line, within one, or within a line after the places where no tree block is due.
-    #[error("plan ends early")]
+    #[error("the plan file is refused")]
     Missing,
     /// An ended line follows the places where no tree block is due.
-    #[error("bytes after the plan")]
+    #[error("the plan file is refused")]
     Trailing,
     #[error("memory")]
     NoMemory,
@@ -45,7 +45,8 @@ fn refusal(bytes: &[u8], number: u64, what: What) -> PlanRead
 }
 
 fn header(bytes: &[u8]) -> Result<&[u8], PlanRead>
-    ensures { result_map_both (λ x. x.now) (λ e. e) result ≡ ok_or (literal_at (codes "seqplan 1\n") bytes.now) (refusal 1 What.Header bytes.now) }
+    ensures { result_map_both (λ x. x.now) (λ e. e) result
+        ≡ ok_or (literal_at (codes "seqplan 1\n") bytes.now) (refusal 1 What.Header bytes.now) }
 {
     match literal(bytes, b"seqplan 1\n") {
         Some(rest) => Ok(rest),
@@ -54,7 +55,8 @@ fn header(bytes: &[u8]) -> Result<&[u8], PlanRead>
 }
 
 fn state(bytes: &[u8]) -> Result<(State, &[u8]), PlanRead>
-    ensures { result_map_both (λ x. (x.0, x.1.now)) (λ e. e) result ≡ ok_or (state_line_at bytes.now) (refusal 2 What.State bytes.now) }
+    ensures { result_map_both (λ x. (x.0, x.1.now)) (λ e. e) result
+        ≡ ok_or (state_line_at bytes.now) (refusal 2 What.State bytes.now) }
 {
     match state_line(bytes) {
         Some(read) => Ok(read),
@@ -70,7 +72,8 @@ fn due<'a>(
     number: u64,
     what: What,
 ) -> Result<(u64, &'a [u8]), PlanRead>
-    ensures value { result_map_both (λ x. (x.0, x.1.now)) (λ e. e) result ≡ ok_or (number_line_at keyword.now most bytes.now) (refusal number what bytes.now) }
+    ensures value { result_map_both (λ x. (x.0, x.1.now)) (λ e. e) result
+        ≡ ok_or (number_line_at keyword.now most bytes.now) (refusal number what bytes.now) }
     ensures within { IfOk result (λ x. x.0 ≤ most) }
 {
     match number_line(bytes, keyword, most) {
@@ -98,7 +101,9 @@ fn begins_place(bytes: &[u8]) -> bool
 
 // The places of the place lines at the front, 16 at most.
 fn places(alloc: Global, bytes: &[u8]) -> Result<(Vec<Place>, &[u8]), PlanRead>
-    ensures answer { result ≢ Err PlanRead.NoMemory → result_map_both (λ x. (x.0.items, x.1.now)) (λ e. e) result ≡ places_from 16 [] bytes.now }
+    ensures answer { result ≢ Err PlanRead.NoMemory
+        → result_map_both (λ x. (x.0.items, x.1.now)) (λ e. e) result
+        ≡ places_from 16 [] bytes.now }
     ensures small { IfOk result (λ x. All IsPlace x.0.items) }
 {
     let mut found = Vec::new(alloc);
@@ -143,7 +148,8 @@ fn divisor_of(scale: u64, places: &[Place]) -> u128
 
 // The file of this state and grid, from the extent on.
 fn body(alloc: Global, state: State, grid: u32, bytes: &[u8]) -> Result<(PlanFile, &[u8]), PlanRead>
-    ensures { result ≢ Err PlanRead.NoMemory → result_map_both (λ x. (x.0, x.1.now)) (λ e. e) result ≡ body_at state grid bytes.now }
+    ensures { result ≢ Err PlanRead.NoMemory
+        → result_map_both (λ x. (x.0, x.1.now)) (λ e. e) result ≡ body_at state grid bytes.now }
 {
     let (extent, rest) = due(bytes, b"extent ", u64::from(grid), 4, What::Extent)?;
     let (scale, rest) = due(rest, b"scale ", (1 << 62) - 1, 5, What::Scale)?;
@@ -181,7 +187,8 @@ fn bare(alloc: Global, state: State, grid: u32) -> PlanFile
 // The file of the plan's own lines, and the bytes after them.
 #[tactic(auto, unfolding(crate::specs::Reading::file_at))]
 fn file(alloc: Global, bytes: &[u8]) -> Result<(PlanFile, &[u8]), PlanRead>
-    ensures { result ≢ Err PlanRead.NoMemory → result_map_both (λ x. (x.0, x.1.now)) (λ e. e) result ≡ file_at bytes.now }
+    ensures { result ≢ Err PlanRead.NoMemory
+        → result_map_both (λ x. (x.0, x.1.now)) (λ e. e) result ≡ file_at bytes.now }
 {
     let (state, grid, rest) = head(bytes)?;
     if state.has_places() {
@@ -210,7 +217,8 @@ fn end(file: &PlanFile, rest: &[u8]) -> Result<(), PlanRead>
 pub fn read_plan(alloc: Global, bytes: &[u8]) -> Result<(PlanFile, usize), PlanRead>
     ensures answer { result ≢ Err PlanRead.NoMemory → result ≡ plan_answer bytes.now }
     ensures read { IfOk result (λ r. IsPlanOf bytes.now r.0 r.1) }
-    ensures all { (file : PlanFile) (place : ℕ) → IsPlanOf bytes.now file place → result ≢ Err PlanRead.NoMemory → result ≡ Ok (file, place) }
+    ensures all { (file : PlanFile) (place : ℕ) → IsPlanOf bytes.now file place
+        → result ≢ Err PlanRead.NoMemory → result ≡ Ok (file, place) }
 {
     let (file, rest) = file(alloc, bytes)?;
     end(&file, rest)?;

@@ -28,14 +28,18 @@ pub enum Unread {
 }
 
 fn value_if(table: &Table, key: Key) -> Option<&Value>
-    ensures value { option_map (λ v. view v.now) result ≡ get_member (key_name key) (table_view table.now) }
+    ensures value { option_map (λ v. view v.now) result
+        ≡ get_member (key_name key) (table_view table.now) }
 {
     table.get(key_text(key))
 }
 
 fn value_at(table: &Table, key: Key) -> Result<&Value, Bad>
-    ensures ok { IfOk result (λ v. get_member (key_name key) (table_view table.now) ≡ Some (view v.now)) }
-    ensures err { IfErr result (λ e. (get_member (key_name key) (table_view table.now) ≡ None) × (e ≡ record { key = key; cause = Cause.Missing })) }
+    ensures ok { IfOk result
+        (λ v. get_member (key_name key) (table_view table.now) ≡ Some (view v.now)) }
+    ensures err { IfErr result
+        (λ e. (get_member (key_name key) (table_view table.now) ≡ None)
+        × (e ≡ record { key = key; cause = Cause.Missing })) }
 {
     match value_if(table, key) {
         Some(value) => Ok(value),
@@ -100,7 +104,8 @@ pub fn grains_at(table: &Table, key: Key, grain: i64, low: i64, high: i64) -> Re
     requires grain { IsGrain grain }
     requires low { IsFewGrains low }
     requires high { IsFewGrains high }
-    ensures value { result ≡ key_at key (grains_in grain (grain *ℤ low) (grain *ℤ high)) (table_view table.now) }
+    ensures value { result
+        ≡ key_at key (grains_in grain (grain *ℤ low) (grain *ℤ high)) (table_view table.now) }
     ensures bounds { IfOk result (λ n. (low ≤ℤ n) × (n ≤ℤ high)) }
 {
     match grains_in(
@@ -120,7 +125,8 @@ pub fn pair_at(table: &Table, key: Key, grain: i64, low: i64, high: i64) -> Resu
     requires grain { IsGrain grain }
     requires low { IsFewGrains low }
     requires high { IsFewGrains high }
-    ensures value { result ≡ key_at key (pair_in grain (grain *ℤ low) (grain *ℤ high)) (table_view table.now) }
+    ensures value { result
+        ≡ key_at key (pair_in grain (grain *ℤ low) (grain *ℤ high)) (table_view table.now) }
     ensures x { IfOk result (λ pair. (low ≤ℤ pair.x) × (pair.x ≤ℤ high)) }
     ensures y { IfOk result (λ pair. (low ≤ℤ pair.y) × (pair.y ≤ℤ high)) }
 {
@@ -148,8 +154,12 @@ pub fn corners_at(
     requires grain { IsGrain grain }
     requires low { IsFewGrains low }
     requires high { IsFewGrains high }
-    ensures ok { IfOk result (λ spots. key_at key (corners_in 1 32 grain (grain *ℤ low) (grain *ℤ high)) (table_view table.now) ≡ Ok spots.items) }
-    ensures err { IfErr result (StopsKey (key_at key (corners_in 1 32 grain (grain *ℤ low) (grain *ℤ high)) (table_view table.now))) }
+    ensures ok { IfOk result
+        (λ spots. key_at key (corners_in 1 32 grain (grain *ℤ low) (grain *ℤ high))
+        (table_view table.now) ≡ Ok spots.items) }
+    ensures err { IfErr result
+        (StopsKey (key_at key (corners_in 1 32 grain (grain *ℤ low) (grain *ℤ high))
+        (table_view table.now))) }
 {
     let value = match value_at(table, key) {
         Ok(value) => value,
@@ -173,7 +183,8 @@ pub fn corners_at(
 /// The tables at a key that may be absent.
 #[tactic(auto, unfolding(crate::specs::Values::key_if))]
 pub fn tables_if(table: &Table, key: Key, most: usize) -> Result<Option<&[Value]>, Bad>
-    ensures value { result_map_both (λ o. option_map (λ values. items_view values.now) o) (λ e. e) result ≡ key_if key (tables_in most) (table_view table.now) }
+    ensures value { result_map_both (λ o. option_map (λ values. items_view values.now) o)
+        (λ e. e) result ≡ key_if key (tables_in most) (table_view table.now) }
     ensures few { IfOk result (λ o. IfSome o (λ values. length values.now ≤ most)) }
 {
     let Some(value) = value_if(table, key) else {
@@ -188,7 +199,8 @@ pub fn tables_if(table: &Table, key: Key, most: usize) -> Result<Option<&[Value]
 /// A name at a key.
 #[tactic(auto, unfolding(crate::specs::Values::key_at))]
 pub fn name_at(table: &Table, key: Key, least: usize, most: usize) -> Result<&str, Bad>
-    ensures value { result_map_both (λ text. text.now) (λ e. e) result ≡ key_at key (name_in least most) (table_view table.now) }
+    ensures value { result_map_both (λ text. text.now) (λ e. e) result
+        ≡ key_at key (name_in least most) (table_view table.now) }
     ensures named { IfOk result (λ text. IsTrue (is_name least most text.now)) }
 {
     match name_in(least, most, value_at(table, key)?) {
@@ -225,7 +237,8 @@ fn is_named(keys: &[Key], text: &str) -> bool
 
 // The first key that the table lists and that is none of these.
 fn next_other<'a>(table: &'a Table, keys: &[Key]) -> Option<&'a str>
-    ensures value { option_map (λ text. text.now) result ≡ next_other keys.now (table_view table.now) }
+    ensures value { option_map (λ text. text.now) result
+        ≡ next_other keys.now (table_view table.now) }
     ensures ascending { IsStrictlySortedBy string_cmp (keys_of table.now.entries) }
 {
     for (text, _) in table.iter() {

@@ -46,28 +46,28 @@ pub enum Key {
 #[derive(Debug, Drop, Error)]
 pub enum Prn {
     /// The bytes are no TOML, or not UTF-8.
-    #[error("not TOML")]
+    #[error("the description is refused")]
     Toml,
-    #[error("missing {0:?} in {1}")]
+    #[error("the description is refused")]
     Missing(Key, u32),
     /// The value is of another kind than the key asks for, or an array has another number of elements.
-    #[error("kind of {0:?} in {1}")]
+    #[error("the description is refused")]
     Kind(Key, u32),
     /// A length is a TOML float.
-    #[error("float for {0:?} in {1}")]
+    #[error("the description is refused")]
     FloatLength(Key, u32),
     /// A length is a string that spells none.
-    #[error("number of {0:?} in {1}")]
+    #[error("the description is refused")]
     Number(Key, u32),
-    #[error("range of {0:?} in {1}")]
+    #[error("the description is refused")]
     Range(Key, u32),
     /// A length that has to lie on the grain is no whole multiple of it.
-    #[error("off grain {0:?} in {1}")]
+    #[error("the description is refused")]
     OffGrain(Key, u32),
     /// The first other key of the table, in byte order.
-    #[error("unknown key {0:?} in {1}")]
+    #[error("the description is refused")]
     Unknown(Text, u32),
-    #[error("more than 12 parts")]
+    #[error("the description is refused")]
     TooManyParts,
     #[error("memory")]
     NoMemory,

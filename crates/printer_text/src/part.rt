@@ -57,12 +57,18 @@ pub fn unknown(alloc: Global, text: &str, number: u32) -> Prn
 
 // The name and the heights.
 fn read_first(table: &Table) -> Result<(&str, Heights), Bad>
-    ensures ok { IfOk result (λ first. (sizes : Sizes) → reading part_keys (table_view table.now) (about sizes) ≡ Ok (said_first sizes first.0.now first.1)) }
+    ensures ok { IfOk result
+        (λ first. (sizes : Sizes)
+        → reading part_keys (table_view table.now) (about sizes)
+        ≡ Ok (said_first sizes first.0.now first.1)) }
     ensures name { IfOk result (λ first. IsPartName first.0.now) }
     ensures from_low { IfOk result (λ first. pos 0 ≤ℤ first.1.from) }
     ensures from_high { IfOk result (λ first. first.1.from ≤ℤ pos 10_000_000) }
-    ensures to { IfOk result (λ first. IfSome first.1.to (λ to. (first.1.from ≤ℤ to) × (to ≤ℤ pos 10_000_000))) }
-    ensures err { IfErr result (λ bad. (sizes : Sizes) → reading part_keys (table_view table.now) (about sizes) ≡ Err bad) }
+    ensures to { IfOk result
+        (λ first. IfSome first.1.to (λ to. (first.1.from ≤ℤ to) × (to ≤ℤ pos 10_000_000))) }
+    ensures err { IfErr result
+        (λ bad. (sizes : Sizes)
+        → reading part_keys (table_view table.now) (about sizes) ≡ Err bad) }
 {
     let name = name_at(table, Key::Name, 1, 40)?;
     let from = length_at(table, Key::From, 0, 10_000_000)?;
@@ -81,8 +87,10 @@ fn bar_outline(
 ) -> Result<Vec<Spot>, Unread>
     requires { AreSizes sizes.now }
     ensures outline { IfOk result (λ spots. IsOutline spots.items) }
-    ensures ok { IfOk result (λ spots. outline_in sizes.now (Some along_x) (table_view table.now) ≡ Ok spots.items) }
-    ensures err { IfErr result (StopsKey (outline_in sizes.now (Some along_x) (table_view table.now))) }
+    ensures ok { IfOk result
+        (λ spots. outline_in sizes.now (Some along_x) (table_view table.now) ≡ Ok spots.items) }
+    ensures err { IfErr result
+        (StopsKey (outline_in sizes.now (Some along_x) (table_view table.now))) }
 {
     let low = match grains_at(table, Key::Low, sizes.grain, -100_000, 100_000) {
         Ok(low) => low,
@@ -111,7 +119,8 @@ fn outline(
 ) -> Result<Vec<Spot>, Unread>
     requires { AreSizes sizes.now }
     ensures outline { IfOk result (λ spots. IsOutline spots.items) }
-    ensures ok { IfOk result (λ spots. outline_in sizes.now bar (table_view table.now) ≡ Ok spots.items) }
+    ensures ok { IfOk result
+        (λ spots. outline_in sizes.now bar (table_view table.now) ≡ Ok spots.items) }
     ensures err { IfErr result (StopsKey (outline_in sizes.now bar (table_view table.now))) }
 {
     match bar {
@@ -122,7 +131,8 @@ fn outline(
 
 // The first key that a part with this bar, or without one, may not have.
 fn other_key(table: &Table, bar: Option<bool>) -> Option<&str>
-    ensures { option_map (λ text. text.now) result ≡ first_other (names (part_keys ++ outline_keys bar)) (table_view table.now) }
+    ensures { option_map (λ text. text.now) result
+        ≡ first_other (names (part_keys ++ outline_keys bar)) (table_view table.now) }
 {
     match bar {
         None => first_other(
@@ -142,7 +152,8 @@ pub fn read_part(alloc: Global, number: u32, table: &Table, sizes: &Sizes) -> Re
     requires { AreSizes sizes.now }
     ensures listed { IfOk result IsListedPart }
     ensures ok { IfOk result (λ part. part_in number sizes.now (table_view table.now) ≡ Ok part) }
-    ensures err { IfErr result (λ e. (e ≡ Prn.NoMemory) ⊎ (part_in number sizes.now (table_view table.now) ≡ Err e)) }
+    ensures err { IfErr result
+        (λ e. (e ≡ Prn.NoMemory) ⊎ (part_in number sizes.now (table_view table.now) ≡ Err e)) }
 {
     let (name, heights) = match read_first(table) {
         Ok(first) => first,

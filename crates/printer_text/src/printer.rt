@@ -136,7 +136,8 @@ fn described(alloc: Global, table: &Table) -> Result<Printer, Prn>
     ensures ok { IfOk result (λ printer. (parts : List Part)
         × (description_in (table_view table.now) ≡ Ok (description_of printer parts))
         × AreKept parts printer.parts) }
-    ensures err { IfErr result (λ e. (e ≡ Prn.NoMemory) ⊎ (description_in (table_view table.now) ≡ Err e)) }
+    ensures err { IfErr result
+        (λ e. (e ≡ Prn.NoMemory) ⊎ (description_in (table_view table.now) ≡ Err e)) }
 {
     let (sizes, listed) = top_alone(alloc, table)?;
     let parts = read_parts(alloc, &sizes, listed.unwrap_or(&[]))?;

@@ -24,7 +24,9 @@ pub struct Sizes {
 
 /// What the keys of the top table say: the sizes, and the listed parts if there are any.
 pub fn read_top(table: &Table) -> Result<(Sizes, Option<&[Value]>), Bad>
-    ensures ok { IfOk result (λ top. reading top_keys (table_view table.now) nothing ≡ Ok (said_top top.0 (option_map (λ values. items_view values.now) top.1))) }
+    ensures ok { IfOk result
+        (λ top. reading top_keys (table_view table.now) nothing
+        ≡ Ok (said_top top.0 (option_map (λ values. items_view values.now) top.1))) }
     ensures ranged { IfOk result (λ top. AreSizes top.0) }
     ensures few { IfOk result (λ top. IfSome top.1 (λ values. length values.now ≤ 12)) }
     ensures err { IfErr result (λ bad. reading top_keys (table_view table.now) nothing ≡ Err bad) }

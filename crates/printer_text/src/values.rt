@@ -196,7 +196,8 @@ fn pairs(
     values: &[Value],
 ) -> Result<Vec<Spot>, Stop>
     requires { pos 1 ≤ℤ grain }
-    ensures ok { IfOk result (λ spots. pairs_behind grain low high [] (items_view values.now) ≡ Ok spots.items) }
+    ensures ok { IfOk result
+        (λ spots. pairs_behind grain low high [] (items_view values.now) ≡ Ok spots.items) }
     ensures err { IfErr result (Stops (pairs_behind grain low high [] (items_view values.now))) }
 {
     let mut spots = Vec::new(alloc);
@@ -231,7 +232,8 @@ pub fn corners_in(
     value: &Value,
 ) -> Result<Vec<Spot>, Stop>
     requires { pos 1 ≤ℤ grain }
-    ensures ok { IfOk result (λ spots. corners_in least most grain low high (view value.now) ≡ Ok spots.items) }
+    ensures ok { IfOk result
+        (λ spots. corners_in least most grain low high (view value.now) ≡ Ok spots.items) }
     ensures err { IfErr result (Stops (corners_in least most grain low high (view value.now))) }
 {
     let Some(values) = value.as_array() else {
@@ -253,7 +255,8 @@ pub fn corners_in(
 /// The tables of an array of at most so many.
 #[tactic(auto, unfolding(crate::specs::Values::tables_in))]
 pub fn tables_in(most: usize, value: &Value) -> Result<&[Value], Cause>
-    ensures value { result_map_both (λ values. items_view values.now) (λ e. e) result ≡ tables_in most (view value.now) }
+    ensures value { result_map_both (λ values. items_view values.now) (λ e. e) result
+        ≡ tables_in most (view value.now) }
     ensures few { IfOk result (λ values. length values.now ≤ most) }
 {
     let Some(values) = value.as_array() else {
@@ -295,7 +298,8 @@ fn is_name(least: usize, most: usize, text: &str) -> bool
 /// A text of `least` to `most` bytes of a name.
 #[tactic(auto, unfolding(crate::specs::Values::name_in))]
 pub fn name_in(least: usize, most: usize, value: &Value) -> Result<&str, Cause>
-    ensures value { result_map_both (λ text. text.now) (λ e. e) result ≡ name_in least most (view value.now) }
+    ensures value { result_map_both (λ text. text.now) (λ e. e) result
+        ≡ name_in least most (view value.now) }
     ensures named { IfOk result (λ text. IsTrue (is_name least most text.now)) }
 {
     let Some(text) = value.as_str() else {
