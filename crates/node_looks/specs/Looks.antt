@@ -3,13 +3,15 @@
 --   IsFound job e plan           the plan is valid at the extent, and a plan file may state it, with the least scale
 --   ClosesBy job e path leaf     the leaf may stand at the path, and the grammar of certificates spells it
 --   SplitsBy job e path node cs  the split may stand at the path and is earned, and its children have these choices, one each
+--   IsVisit n visit              the numbers below n, each once, in the order in which n children are to be looked at
 --   IsWideAt job e path basis row   the walk of the path's system ends before this basis, wide at this variable
 --   IsLook job e path look       what each answer shows
 --   zero_point job               all variables 0
 --   HasZeroPlan job e            some order of the objects makes their places at the zero point a valid plan
 --   IsZeroLook job e look        such a plan is answered
-use Rattle.std.specs.Prelude.{◌≡◌, ℕ, ◌*◌, ◌<◌, ◌^◌, List, [], ◌≤ℤ◌, ◌<ℤ◌, pos, All, length, map, replicate}
+use Rattle.std.specs.Prelude.{◌≡◌, ◌↔◌, ℕ, ◌*◌, ◌<◌, ◌^◌, List, [], ◌≤ℤ◌, ◌<ℤ◌, pos, All, Contains, length, map, replicate}
 use Rattle.cert_text.specs.TreeText.{IsSpelt}
+use Rattle.object_orders.specs.Orders.{IsOnce}
 use Rattle.plan_laws.specs.Ordered.{plan_of}
 use Rattle.plan_text.specs.PlanText.{HasNoDivisor, IsPlace}
 use Rattle.seq_model.specs.Jobs.{scene_of_job}
@@ -47,13 +49,17 @@ pub record SplitsBy (job : Job) (e : ℕ) (path : List Choice) (node : Node) (ch
   pub few : length choices < 2 ^ 31
   pub spelt : IsSpelt node
 
+pub record IsVisit (n : ℕ) (visit : List ℕ) : Type 0 where
+  pub all : (k : ℕ) → Contains visit k ↔ (k < n)
+  pub once : IsOnce visit
+
 abbrev pub IsWideAt : Job → ℕ → List Choice → List ℕ → ℕ → Type 0
 IsWideAt job e path basis row = WalkWide (2 * length job.objects) (system job e path) basis row
 
 abbrev pub IsLook : Job → ℕ → List Choice → Look → Type 0
 IsLook job e path (Looks.Found plan) = IsFound job e plan
 IsLook job e path (Looks.Close leaf) = ClosesBy job e path leaf
-IsLook job e path (Looks.Split node choices) = SplitsBy job e path node choices
+IsLook job e path (Looks.Split node choices visit) = SplitsBy job e path node choices × IsVisit (length choices) visit
 IsLook job e path (Looks.Wide basis row) = IsWideAt job e path basis row
 
 abbrev pub zero_point : Job → Values
@@ -65,5 +71,5 @@ HasZeroPlan job e = (objects : List ℕ) × Valid (scene_of_job job) e (plan_of 
 abbrev pub IsZeroLook : Job → ℕ → Look → Type 0
 IsZeroLook job e (Looks.Found plan) = (objects : List ℕ) × (plan ≡ plan_of job e (zero_point job) objects)
 IsZeroLook job e (Looks.Close leaf) = ⊥
-IsZeroLook job e (Looks.Split node choices) = ⊥
+IsZeroLook job e (Looks.Split node choices visit) = ⊥
 IsZeroLook job e (Looks.Wide basis row) = ⊥
