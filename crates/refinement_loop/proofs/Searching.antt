@@ -248,7 +248,7 @@ apart_children : (n : ℕ) (path choices : List Choice) (visits : List ℕ) (ope
 apart_children n path choices [] open_nodes below own apart = apart
 apart_children n path choices (v ∷ visits) open_nodes below own apart = (
   (λ i. elim (in_children (n + v) n path choices visits open_nodes i)
-  [ inl h ↦ own.0 (subst (λ x. In x visits) (same h.0 h.1) h.2) | inr j ↦ omega (arith, below (n + v) j) ]),
+      [ inl h ↦ own.0 (subst (λ x. In x visits) (same h.0 h.1) h.2) | inr j ↦ omega (arith, below (n + v) j) ]),
   apart_children n path choices visits open_nodes below own.1 apart,
 )
   where
@@ -354,6 +354,7 @@ search_splits job e budget made o open_nodes wide node choices visits s by order
         absurd (split_pending node (omega (arith, by.some, by.many))
         (sym (ap (λ x. node_of (with_split made o.number node) x) at ∙ ap (λ m. m.node) (split_at made o.number node s.held.0.known)) ∙ p))
     all k h p (inl low) (inr ne) =
-        elim (s.all k low (sym (ap (λ m. m.node) (kept_by_split made o.number node k low ne)) ∙ p))
-        [ inl i ↦ elim i [ inl at ↦ absurd (ne at) | inr j ↦ inl (other_in k (length made) o.path choices visits open_nodes j) ]
-        | inr w ↦ inr (w.0, subst (HasWideWalk job e) (sym (get_or_append_left s.paths (map (also o.path) choices) [] k (omega (arith, low, s.good.many)))) w.1) ]
+        elim (s.all k low (sym (ap (λ m. m.node) (kept_by_split made o.number node k low ne)) ∙ p)) [
+          | inl i ↦ elim i [ inl at ↦ absurd (ne at) | inr j ↦ inl (other_in k (length made) o.path choices visits open_nodes j) ]
+          | inr w ↦ inr (w.0, subst (HasWideWalk job e) (sym (get_or_append_left s.paths (map (also o.path) choices) [] k (omega (arith, low, s.good.many)))) w.1)
+        ]

@@ -157,8 +157,18 @@ split_step job e budget made now open_nodes left after wide number first path th
 
     less : left_over budget (with_split made number node) (map (child_of (length made) path choices) visit ++ left) < left_over budget made open_nodes
     less =
-        omega (arith, low, length_split made number node, here.many, here.some, here.few, length-append (map (child_of (length made) path choices) visit) left,
-        length-map visit (child_of (length made) path choices), order.few, ap length head)
+        omega (
+          arith,
+          low,
+          length_split made number node,
+          here.many,
+          here.some,
+          here.few,
+          length-append (map (child_of (length made) path choices) visit) left,
+          length-map visit (child_of (length made) path choices),
+          order.few,
+          ap length head,
+        )
 
 -- what `push_all` asks of the order of the children
 pub visit_known : (job : Job) (e : ℕ) (there : List Choice) (look : Look) (node : Node) (choices : List Choice) (visit : List ℕ) → Looked job e there look → look ≡ Looks.Split node choices visit

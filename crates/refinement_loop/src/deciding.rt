@@ -67,7 +67,11 @@ fn search<L: Looks>(
     };
     let node = tree.number(held.number)?;
     let whole = tree.whole()?;
-    let WideNode { number: _, basis, row } = held;
+    let WideNode {
+        number: _,
+        basis,
+        row,
+    } = held;
     Ok(Decision::Wide(WideNote { node, basis, row }, whole))
 }
 

@@ -69,7 +69,7 @@ impl Agenda {
     pub fn pop(&mut self) -> Result<Option<u32>, AllocError>
         ensures { IfOk result (λ next. MatchOption next (self.old.open_nodes ≡ [])
             (λ number. self.old.open_nodes
-                ≡ record { number = number; path = self.new.path } ∷ self.new.open_nodes)) }
+            ≡ record { number = number; path = self.new.path } ∷ self.new.open_nodes)) }
     {
         let Some(next) = self.waiting.pop() else {
             return Ok(None);
@@ -97,12 +97,17 @@ impl Agenda {
     }
 
     /// Children of a split, which come next in the order of `visits`: child k is node `first + k`, at the path with choice k more.
-    pub fn push_all(&mut self, first: u32, choices: &[Choice], visits: &[u32]) -> Result<(), AllocError>
+    pub fn push_all(
+        &mut self,
+        first: u32,
+        choices: &[Choice],
+        visits: &[u32],
+    ) -> Result<(), AllocError>
         requires room { first + length choices.now ≤ 2 ^ 32 }
         requires known { All (λ k. k < length choices.now) visits.now }
         ensures { OnOk result (self.new ≡ record {
-            path = self.old.path;
-            open_nodes = map (child_of first self.old.path choices.now) visits.now ++ self.old.open_nodes;
+          path = self.old.path;
+          open_nodes = map (child_of first self.old.path choices.now) visits.now ++ self.old.open_nodes;
         }) }
     {
         let count = visits.len();

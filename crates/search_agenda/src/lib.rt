@@ -10,3 +10,6 @@ mod agenda;
 mod open_nodes;
 
 pub use agenda::{Agenda, Waiting};
+
+#[cfg(test)]
+mod tests;

@@ -10,9 +10,11 @@ loop-wide-init g c =
 
 pub loop-wide-preserved-in-Close : goal.loop-wide-preserved-in-Close
 loop-wide-preserved-in-Close g c =
-    let head = rw c.in-Some.is at c.in_ok-number.ensures in
-    ((close_step _ _ _ _ _ _ _ _ _ _ _ _ _ c.loop-wide.invariant.0 head c.path.ensures (record { is = c.in_ok-plan.ensures.look; zero = c.in_ok-plan.ensures.zero }) c.in-Close.is
-    (ap (λ t. t.made) c.close.ensures.closed)).keeps, c.look.ensures.stays)
+    let head = rw c.in-Some.is at c.in_ok-number.ensures in (
+      (close_step _ _ _ _ _ _ _ _ _ _ _ _ _ c.loop-wide.invariant.0 head c.path.ensures (record { is = c.in_ok-plan.ensures.look; zero = c.in_ok-plan.ensures.zero }) c.in-Close.is
+          (ap (λ t. t.made) c.close.ensures.closed)).keeps,
+      c.look.ensures.stays,
+    )
 
 pub loop-wide-smaller-in-Close : goal.loop-wide-smaller-in-Close
 loop-wide-smaller-in-Close g c =
@@ -22,9 +24,11 @@ loop-wide-smaller-in-Close g c =
 
 pub loop-wide-preserved-in-Wide : goal.loop-wide-preserved-in-Wide
 loop-wide-preserved-in-Wide g c =
-    let head = rw c.in-Some.is at c.in_ok-number.ensures in
-    ((wide_step _ _ _ _ _ _ _ _ _ _ _ _ _ _ c.loop-wide.invariant.0 head c.path.ensures (record { is = c.in_ok-plan.ensures.look; zero = c.in_ok-plan.ensures.zero }) c.in-Wide.is
-    c.first_of-wide.ensures).keeps, c.look.ensures.stays)
+    let head = rw c.in-Some.is at c.in_ok-number.ensures in (
+      (wide_step _ _ _ _ _ _ _ _ _ _ _ _ _ _ c.loop-wide.invariant.0 head c.path.ensures (record { is = c.in_ok-plan.ensures.look; zero = c.in_ok-plan.ensures.zero }) c.in-Wide.is
+          c.first_of-wide.ensures).keeps,
+      c.look.ensures.stays,
+    )
 
 pub loop-wide-smaller-in-Wide : goal.loop-wide-smaller-in-Wide
 loop-wide-smaller-in-Wide g c =
@@ -46,10 +50,11 @@ push_all-requires-clause-known g c =
 pub loop-wide-preserved : goal.loop-wide-preserved
 loop-wide-preserved g c =
     let head = rw c.in-Some.is at c.in_ok-number.ensures in
-    let pushed = rw (c.as_slice-in-Split.ensures, c.as_slice.ensures) at (ap (λ a. a.open_nodes) c.in_ok-push_all-in-Split.ensures) in
-    ((split_step _ _ _ _ _ _ _ _ _ _ _ _ _ _ _ _ _ c.loop-wide.invariant.0 head c.path.ensures (record { is = c.in_ok-plan.ensures.look; zero = c.in_ok-plan.ensures.zero }) c.in-Split.is
-    (omega (arith, c.node_count.ensures, c.if-node_count-budget.false)) c.requires.limit (ap (λ t. t.made) c.in_ok-first-in-Split.ensures.split) c.in_ok-first-in-Split.ensures.first pushed).keeps,
-    c.look.ensures.stays)
+    let pushed = rw (c.as_slice-in-Split.ensures, c.as_slice.ensures) at (ap (λ a. a.open_nodes) c.in_ok-push_all-in-Split.ensures) in (
+      (split_step _ _ _ _ _ _ _ _ _ _ _ _ _ _ _ _ _ c.loop-wide.invariant.0 head c.path.ensures (record { is = c.in_ok-plan.ensures.look; zero = c.in_ok-plan.ensures.zero }) c.in-Split.is
+          (omega (arith, c.node_count.ensures, c.if-node_count-budget.false)) c.requires.limit (ap (λ t. t.made) c.in_ok-first-in-Split.ensures.split) c.in_ok-first-in-Split.ensures.first pushed).keeps,
+      c.look.ensures.stays,
+    )
 
 pub loop-wide-smaller : goal.loop-wide-smaller
 loop-wide-smaller g c =
