@@ -1,13 +1,13 @@
 -- What the answers of a search show.
-use Rattle.std.proofs.Common.{◌≡◌, ℕ, zero, suc, ◌+◌, ◌^◌, ◌<◌, ◌≤◌, List, [], ◌∷◌, All, Contains, Option, Some, None, length, map, get_or, refl, sym, ap, subst, ◌∙◌, arith, inl, inr, ◌⊎◌}
+use Rattle.std.proofs.Common.{◌≡◌, ℕ, zero, suc, ◌+◌, ◌^◌, ◌<◌, ◌≤◌, List, [], ◌∷◌, All, Option, Some, None, length, map, get_or, refl, sym, ap, subst, ◌∙◌, arith, inl, inr}
 use Rattle.std.specs.Prelude.{IsSome, slice_get}
 use Rattle.cert_text.specs.TreeText.{IsSpelt}
 use Rattle.model_laws.specs.Laws.Grounds.{earned_is_grounded}
 use Rattle.model_laws.specs.Laws.OnePath.{stands_at_path}
 use Rattle.node_looks.specs.Looks.{SplitsBy}
 use Rattle.refinement_loop.proofs.Printing.{all_nodes, note_is_spelt, reads_fill}
-use Rattle.refinement_loop.proofs.Searching.{Good, IsHeld, IsStill, Searching, numbers}
-use Rattle.refinement_loop.specs.Decisions.{HasNoWideWalk, HasWideWalk, IsAllWide, IsDecision, IsPrintable, IsRefutation, IsSettled, IsSpent, IsSpentDecision, IsWideEnd}
+use Rattle.refinement_loop.proofs.Searching.{Good, IsHeld, IsStill, Searching}
+use Rattle.refinement_loop.specs.Decisions.{HasNoWideWalk, HasWideWalk, IsDecision, IsPrintable, IsRefutation, IsSettled, IsSpent, IsSpentDecision, IsWideEnd}
 use Rattle.refinement_loop.specs.declared.deciding.Decision.{Decision}
 use Rattle.refinement_loop.specs.declared.deciding.Decision.TheVariants as Decisions
 use Rattle.refinement_loop.specs.declared.wide_nodes.WideNode.{WideNode}
@@ -19,7 +19,7 @@ use Rattle.search_agenda.specs.Agendas.{OpenNode}
 use Rattle.search_laws.specs.Laws.MostSides.{most_sides}
 use Rattle.search_laws.specs.Laws.Shares.{spent_below_full}
 use Rattle.seq_model.specs.Budgets.{Full, IsMostSides}
-use Rattle.seq_model.specs.Splits.{CouldSplit, Earned, Grounded, IsCertificate, OpenTree, SpentTree, StandsAt}
+use Rattle.seq_model.specs.Splits.{CouldSplit, Earned, Grounded, OpenTree, StandsAt}
 use Rattle.seq_model.specs.Trees.{AreChildren, IsClosed, IsSoundNode, IsTree, also}
 use Rattle.seq_model.specs.declared.job.Job.{Job}
 use Rattle.seq_model.specs.declared.tree.Choice.{Choice}

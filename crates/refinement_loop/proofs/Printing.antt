@@ -4,7 +4,7 @@
 --   children_deeper     the children of a node stand one choice deeper
 --   reads_fill          where no path is longer than this, no node has more splits above it
 --   note_is_spelt       a basis that a walk ends before is a list that a text may hold
-use Rattle.std.proofs.Common.{◌≡◌, ℕ, suc, ◌+◌, ◌*◌, ◌^◌, ◌<◌, ◌≤◌, ℤ, pos, negsuc, ◌<ℤ◌, List, [], ◌∷◌, ◌++◌, All, length, map, replicate, refl, sym, ap, subst, ◌∙◌, arith, inl, inr, ◌⊎◌, length-append}
+use Rattle.std.proofs.Common.{◌≡◌, ℕ, ◌+◌, ◌*◌, ◌^◌, ◌<◌, ◌≤◌, ℤ, pos, negsuc, ◌<ℤ◌, List, [], ◌∷◌, ◌++◌, All, length, map, replicate, refl, sym, ap, subst, ◌∙◌, arith, inl, inr, length-append}
 use Rattle.std.proofs.lemmas.Int.{ints}
 use Rattle.std.proofs.lemmas.List.{map-append}
 use Rattle.std.proofs.lemmas.List.Elements.{All-nil, All-cons, All-head, All-tail, All-weaker}
@@ -24,7 +24,6 @@ use Rattle.seq_model.specs.declared.tree.Contact.{Contact}
 use Rattle.seq_model.specs.declared.tree.Dir.{Dir}
 use Rattle.seq_model.specs.declared.tree.Node.{Node}
 use Rattle.seq_model.specs.declared.tree.Node.TheVariants as Nodes
-use Rattle.seq_model.specs.declared.tree.WideNote.{WideNote}
 
 pub all_nodes : (P : Node → Type 0) (made : List Made) (order : List ℕ) → ((k : ℕ) → k < length made → P (node_of made k)) → All (λ k. k < length made) order
     → All P (map (node_of made) order)

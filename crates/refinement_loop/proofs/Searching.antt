@@ -10,7 +10,7 @@ use Rattle.std.proofs.Common.{◌≡◌, ℕ, zero, suc, ◌+◌, ◌-◌, ◌<�
 use Rattle.std.specs.Prelude.{IsSome}
 use Rattle.std.proofs.lemmas.Bool.{cases_eq, cases_lt}
 use Rattle.std.proofs.lemmas.List.{get_or_append_left, get_or-append_right, get_or-map, get_or-set_same, get_or-set_other, length-set, length-map}
-use Rattle.std.proofs.lemmas.List.Elements.{All-nil, All-head, All-tail, All-get_or, All-cons}
+use Rattle.std.proofs.lemmas.List.Elements.{All-head, All-tail, All-get_or}
 use Rattle.cert_text.specs.TreeText.{IsSpelt}
 use Rattle.integer_laws.specs.Members.{In}
 use Rattle.model_laws.specs.Laws.Reading.{no_choice, children_are_paths}
@@ -19,7 +19,7 @@ use Rattle.refinement_loop.proofs.Visits.{AreApart, AreVisits}
 use Rattle.refinement_loop.specs.Decisions.{HasWideWalk}
 use Rattle.refinement_loop.specs.WideNodes.{first_wide}
 use Rattle.refinement_loop.specs.declared.wide_nodes.WideNode.{WideNode}
-use Rattle.refutation_tree.specs.Grown.{pending, made_at, node_of, IsLeaf, with_split, with_leaf}
+use Rattle.refutation_tree.specs.Grown.{pending, node_of, IsLeaf, with_split, with_leaf}
 use Rattle.refutation_tree.specs.Laws.Goodness.{path_at, AreGood, first_good, split_good, leaf_good}
 use Rattle.refutation_tree.specs.Laws.Grows.{kept_by_split, split_at, pending_after_split, length_split}
 use Rattle.refutation_tree.specs.declared.growing.Made.{Made}

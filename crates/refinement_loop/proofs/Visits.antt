@@ -3,7 +3,7 @@
 --   AreApart ks             none stands twice, by recursion
 --   AreVisits n visit       n numbers below n, each once
 --   visits_are              so is an order in which n children are to be looked at
-use Rattle.std.proofs.Common.{◌≡◌, ℕ, zero, suc, ◌+◌, ◌<◌, ◌≤◌, List, [], ◌∷◌, All, Bool, true, false, cond, eqb, length, refl, sym, ap, subst, ◌∙◌, arith, inl, inr, ◌⊎◌}
+use Rattle.std.proofs.Common.{◌≡◌, ℕ, zero, suc, ◌+◌, ◌<◌, ◌≤◌, List, [], ◌∷◌, All, Bool, true, false, cond, eqb, length, refl, sym, ap, subst, ◌∙◌, arith, inl, inr}
 use Rattle.std.proofs.lemmas.Bool.{eqb-true, eq-eqb}
 use Rattle.integer_laws.specs.Laws.Members.{All-from_in, Contains-from_in, In-from_contains}
 use Rattle.integer_laws.specs.Members.{In}
