@@ -4,6 +4,16 @@
 //! `IsLook` says what each answer shows. The loop above keeps nodes, paths and the budget, and asks a `Looks` about each node.
 #![tactic(auto)]
 
+mod completing;
+mod hits;
+mod looking;
 mod looks;
+mod orders;
+mod plans;
+mod points;
+mod splits;
+mod survey;
+mod system;
 
+pub use looking::Looker;
 pub use looks::{Look, Looks};
