@@ -14,4 +14,4 @@ mod shrinking;
 mod trying;
 
 pub use outcome::{Cause, Outcome};
-pub use shrinking::least_by;
+pub use shrinking::{least, least_by};

@@ -6,7 +6,7 @@ ghost use Rattle.seq_model.specs.Budgets.{Full};
 use crate::fitting::Fitted;
 use crate::trying::{Attempt, Tried, try_extent};
 use crate::{Cause, Outcome};
-use node_looks::Looks;
+use node_looks::{Looker, Looks};
 use seq_model::{Job, Plan, Tree};
 use seq_num::NoMemory;
 use std::alloc::Global;
@@ -144,4 +144,18 @@ pub fn least_by<L: Looks>(
         → IfOk result IsDecided }
 {
     shrunk(alloc, job, budget, looks)
+}
+
+/// The least extent at which the job has a plan. The budget holds for each extent tried.
+pub fn least(alloc: Global, job: &Job, budget: u64) -> Result<Outcome, NoMemory>
+    requires some { 1 ≤ budget }
+    requires limit { budget ≤ 1_000_000 }
+    ensures is { IfOk result (IsOutcome job.now budget) }
+    ensures unspent { (full : ℕ) → Full job.now full → full ≤ budget
+        → IfOk result (λ outcome. IsBudgetOutcome outcome → ⊥) }
+    ensures complete { (full : ℕ) → Full job.now full → full ≤ budget → HasNoWideJob job.now
+        → IfOk result IsDecided }
+{
+    let mut looks = Looker::new(alloc, job)?;
+    least_by(alloc, job, budget, &mut looks)
 }

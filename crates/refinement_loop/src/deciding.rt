@@ -4,7 +4,7 @@ ghost use Rattle.refinement_loop.specs.Decisions.{HasNoWideWalk, IsDecision, IsS
 ghost use Rattle.seq_model.specs.Budgets.{Full};
 
 use crate::wide_nodes::{WideNode, first_of};
-use node_looks::{Look, Looks};
+use node_looks::{Look, Looker, Looks};
 use refutation_tree::Growing;
 use search_agenda::Agenda;
 use seq_model::{Job, Plan, Tree, WideNote};
@@ -97,4 +97,21 @@ pub fn decide_by<L: Looks>(
         → IfOk result IsSettled }
 {
     search(alloc, job, extent, budget, looks)
+}
+
+/// Decides an extent: a plan, a certificate that there is none, or why neither was found within the budget.
+pub fn decide(alloc: Global, job: &Job, extent: u32, budget: u64) -> Result<Decision, NoMemory>
+    requires low { 1 ≤ extent }
+    requires high { extent ≤ job.now.printer.grid }
+    requires some { 1 ≤ budget }
+    requires limit { budget ≤ 1_000_000 }
+    ensures is { IfOk result (IsDecision job.now extent budget) }
+    ensures zero { HasZeroPlan job.now extent → IfOk result (IsZeroDecision job.now extent) }
+    ensures unspent { (full : ℕ) → Full job.now full → full ≤ budget
+        → IfOk result (λ d. IsSpentDecision d → ⊥) }
+    ensures complete { (full : ℕ) → Full job.now full → full ≤ budget → HasNoWideWalk job.now extent
+        → IfOk result IsSettled }
+{
+    let mut looks = Looker::new(alloc, job)?;
+    decide_by(alloc, job, extent, budget, &mut looks)
 }

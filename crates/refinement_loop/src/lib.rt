@@ -11,4 +11,4 @@
 mod deciding;
 mod wide_nodes;
 
-pub use deciding::{Decision, decide_by};
+pub use deciding::{Decision, decide, decide_by};
