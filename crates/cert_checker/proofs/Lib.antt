@@ -1,0 +1,9 @@
+pub mod Circles
+pub mod Counts
+pub mod Marks
+pub mod Ranges
+pub mod Stamps
+pub mod Standing
+pub mod SystemRows
+pub mod Verdicts
+pub mod Walking

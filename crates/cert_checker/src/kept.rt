@@ -1,0 +1,207 @@
+// What is made once for a whole tree: the sides of its contacts, and the choices of its splits.
+ghost use Rattle.std.specs.Prelude.{◌≡◌, ◌≤◌, ◌++◌, ◌∷◌, [], List, All, length, map, IfOk, OnOk, IfSome, IfNone};
+ghost use Rattle.outline_laws.specs.Directions.{IsShort};
+ghost use Rattle.seq_model.specs.Contacts.{IsContact, points_of};
+ghost use Rattle.seq_model.specs.Sides.{AreSides};
+ghost use Rattle.seq_model.specs.declared.job.Job.{Job};
+ghost use Rattle.seq_model.specs.declared.tree.Choice.{Choice};
+ghost use Rattle.seq_model.specs.declared.tree.Choice.TheVariants as Choices;
+ghost use Rattle.seq_model.specs.declared.tree.Node.TheVariants as Nodes;
+ghost use Rattle.cert_checker.specs.Kept.{AreRanges, HasRange, HasRowsBeside, IsKept, IsStuck};
+ghost use Rattle.cert_checker.specs.Trails.{IsRowFor, IsRowOf};
+
+use crate::contacts::exists;
+use crate::rooms::rooms;
+use bound_sums::SideRow;
+use difference_polygon::{side_row, sides_of};
+use seq_model::{Choice, Contact, Dir, Job, Node};
+use seq_num::NoMemory;
+use std::alloc::{AllocError, Global};
+
+/// Places of a table, from one up to another.
+#[derive(Clone, Copy, Debug)]
+pub struct Range {
+    pub from: usize,
+    pub to: usize,
+}
+
+/// Choices, each with its row where it is a side.
+#[derive(Debug, Drop)]
+pub struct Table {
+    pub choices: Vec<Choice>,
+    pub rows: Vec<SideRow>,
+}
+
+/// An extent, and the room that it leaves for each variable; the choices of the splits; and for each node the range of its children's, up to the first node whose
+/// children can't be those of its split.
+#[derive(Debug, Drop)]
+pub struct Kept {
+    pub extent: u32,
+    pub rooms: Vec<i64>,
+    pub table: Table,
+    pub ranges: Vec<Range>,
+}
+
+// The row of an order, which has none.
+const NO_ROW: SideRow = SideRow {
+    c: 0,
+    x: 0,
+    y: 0,
+    i: 0,
+    j: 0,
+};
+
+fn row_of(job: &Job, contact: &Contact, dir: &Dir) -> SideRow
+    requires contact { IsContact job.now contact.now }
+    requires dir { IsShort dir.now }
+    ensures { IsRowOf job.now contact.now dir.now result }
+{
+    side_row(job, contact, *dir)
+}
+
+fn sides_of_contact(alloc: Global, job: &Job, contact: &Contact) -> Result<Vec<Dir>, NoMemory>
+    requires { IsContact job.now contact.now }
+    ensures sides { IfOk result (λ dirs. AreSides (points_of job.now contact.now) dirs.items) }
+    ensures short { IfOk result (λ dirs. All IsShort dirs.items) }
+{
+    let a = &job.objects.as_slice()[contact.i as usize].zones.as_slice()[contact.zi as usize];
+    let b = &job.objects.as_slice()[contact.j as usize].zones.as_slice()[contact.zj as usize];
+    let part = &job.printer.parts.as_slice()[contact.part as usize];
+    sides_of(
+        alloc,
+        a.corners.as_slice(),
+        b.corners.as_slice(),
+        part.corners.as_slice(),
+    )
+}
+
+impl Table {
+    fn new(alloc: Global) -> Table
+        ensures choices { result.choices.items ≡ [] }
+        ensures rows { (job : Job) → HasRowsBeside job result.choices.items result.rows.items }
+    {
+        Table {
+            choices: Vec::new(alloc),
+            rows: Vec::new(alloc),
+        }
+    }
+
+    fn push(&mut self, choice: &Choice, row: &SideRow) -> Result<(), AllocError>
+        ensures choices { OnOk result (self.new.choices.items ≡ self.old.choices.items ++ choice.now ∷ []) }
+        ensures rows { (job : Job) → HasRowsBeside job self.old.choices.items self.old.rows.items → IsRowFor job choice.now row.now
+            → OnOk result (HasRowsBeside job self.new.choices.items self.new.rows.items) }
+    {
+        self.choices.push(*choice)?;
+        self.rows.push(*row)?;
+        Ok(())
+    }
+
+    fn push_order(&mut self, i: u32, j: u32) -> Result<(), AllocError>
+        ensures choices { OnOk result (self.new.choices.items ≡ self.old.choices.items ++ (Choices.Before i j ∷ Choices.Before j i ∷ [])) }
+        ensures rows { (job : Job) → HasRowsBeside job self.old.choices.items self.old.rows.items
+            → OnOk result (HasRowsBeside job self.new.choices.items self.new.rows.items) }
+    {
+        self.push(&Choice::Before { i, j }, &NO_ROW)?;
+        self.push(&Choice::Before { i: j, j: i }, &NO_ROW)?;
+        Ok(())
+    }
+
+    fn push_sides(&mut self, job: &Job, contact: &Contact, dirs: &[Dir]) -> Result<(), AllocError>
+        requires contact { IsContact job.now contact.now }
+        requires short { All IsShort dirs.now }
+        ensures choices { OnOk result (self.new.choices.items ≡ self.old.choices.items ++ map (Choices.Side contact.now) dirs.now) }
+        ensures rows { HasRowsBeside job.now self.old.choices.items self.old.rows.items
+            → OnOk result (HasRowsBeside job.now self.new.choices.items self.new.rows.items) }
+    {
+        for dir in dirs {
+            let row = row_of(job, contact, dir);
+            self.push(&Choice::Side { contact: *contact, dir: *dir }, &row)?;
+        }
+        Ok(())
+    }
+
+    // The range of a side split, or None where it can't be a split with so many children.
+    fn side_range(&mut self, alloc: Global, job: &Job, contact: &Contact, children: u32) -> Result<Option<Range>, NoMemory>
+        ensures range { IfOk result (λ r. IfSome r (HasRange job.now self.new.choices.items (Nodes.Side contact.now children))) }
+        ensures stuck { IfOk result (λ r. IfNone r (IsStuck job.now (Nodes.Side contact.now children))) }
+        ensures grown { OnOk result ((more : List Choice) × (self.new.choices.items ≡ self.old.choices.items ++ more)) }
+        ensures rows { HasRowsBeside job.now self.old.choices.items self.old.rows.items
+            → OnOk result (HasRowsBeside job.now self.new.choices.items self.new.rows.items) }
+    {
+        if !exists(job, contact) {
+            return Ok(None);
+        }
+        let dirs = sides_of_contact(alloc, job, contact)?;
+        if dirs.len() != children as usize {
+            return Ok(None);
+        }
+        let from = self.choices.len();
+        self.push_sides(job, contact, dirs.as_slice())?;
+        Ok(Some(Range {
+            from,
+            to: self.choices.len(),
+        }))
+    }
+
+    fn order_range(&mut self, i: u32, j: u32) -> Result<Range, AllocError>
+        ensures range { IfOk result (λ r. (job : Job) → HasRange job self.new.choices.items (Nodes.Order i j) r) }
+        ensures grown { OnOk result ((more : List Choice) × (self.new.choices.items ≡ self.old.choices.items ++ more)) }
+        ensures rows { (job : Job) → HasRowsBeside job self.old.choices.items self.old.rows.items
+            → OnOk result (HasRowsBeside job self.new.choices.items self.new.rows.items) }
+    {
+        let from = self.choices.len();
+        self.push_order(i, j)?;
+        Ok(Range {
+            from,
+            to: self.choices.len(),
+        })
+    }
+
+    // The range of a node's children, or None where it is a side split with other children.
+    fn range(&mut self, alloc: Global, job: &Job, node: &Node) -> Result<Option<Range>, NoMemory>
+        ensures range { IfOk result (λ r. IfSome r (HasRange job.now self.new.choices.items node.now)) }
+        ensures stuck { IfOk result (λ r. IfNone r (IsStuck job.now node.now)) }
+        ensures grown { OnOk result ((more : List Choice) × (self.new.choices.items ≡ self.old.choices.items ++ more)) }
+        ensures rows { HasRowsBeside job.now self.old.choices.items self.old.rows.items
+            → OnOk result (HasRowsBeside job.now self.new.choices.items self.new.rows.items) }
+    {
+        match node {
+            Node::Order { i, j } => Ok(Some(self.order_range(*i, *j)?)),
+            Node::Side { contact, children } => self.side_range(alloc, job, contact, *children),
+            _ => Ok(Some(Range { from: 0, to: 0 })),
+        }
+    }
+
+    fn ranges(&mut self, alloc: Global, job: &Job, nodes: &[Node]) -> Result<Vec<Range>, NoMemory>
+        ensures ranges { IfOk result (λ ranges. AreRanges job.now self.new.choices.items nodes.now ranges.items) }
+        ensures rows { HasRowsBeside job.now self.old.choices.items self.old.rows.items
+            → OnOk result (HasRowsBeside job.now self.new.choices.items self.new.rows.items) }
+    {
+        let mut ranges = Vec::with_capacity(alloc, nodes.len())?;
+        for node in nodes {
+            let Some(range) = self.range(alloc, job, node)? else {
+                return Ok(ranges);
+            };
+            ranges.push(range)?;
+        }
+        Ok(ranges)
+    }
+}
+
+/// What is kept for a tree of these nodes.
+pub fn keep(alloc: Global, job: &Job, extent: u32, nodes: &[Node]) -> Result<Kept, NoMemory>
+    requires from_one { 1 ≤ extent }
+    requires to_grid { extent ≤ job.now.printer.grid }
+    ensures kept { IfOk result (IsKept job.now nodes.now) }
+    ensures extent { IfOk result (λ kept. kept.extent ≡ extent) }
+{
+    let rooms = rooms(alloc, job, extent)?;
+    let mut table = Table::new(alloc);
+    let ranges = table.ranges(alloc, job, nodes)?;
+    Ok(Kept {
+        extent,
+        rooms,
+        table,
+        ranges,
+    })
+}
