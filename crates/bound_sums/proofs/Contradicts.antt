@@ -46,10 +46,13 @@ entries_low a each k d within = subst (λ z. z ≤ℤ pos 0) (sym (get_or_defaul
 
 pub all_summed : (rows : List Row) (mults : List Mult) (sums : List ℤ) (constant : ℤ) → AreSums rows mults [] sums constant
     → ((All (λ a. a ≤ℤ pos 0) sums) ↔ All (λ a. a ≤ℤ pos 0) (sum_coefficients rows mults)) × (constant ≡ sum_constant rows mults)
-all_summed rows mults sums constant s =
-    ((λ h. entries_low (sum_coefficients rows mults) (λ k. subst (λ z. z ≤ℤ pos 0) (same k) (low_entry sums h k)),
-    λ h. entries_low sums (λ k. subst (λ z. z ≤ℤ pos 0) (sym (same k)) (low_entry (sum_coefficients rows mults) h k))),
-    (let f = s.constants in omega (arith, ints, f)))
+all_summed rows mults sums constant s = (
+  (
+    λ h. entries_low (sum_coefficients rows mults) (λ k. subst (λ z. z ≤ℤ pos 0) (same k) (low_entry sums h k)),
+    λ h. entries_low sums (λ k. subst (λ z. z ≤ℤ pos 0) (sym (same k)) (low_entry (sum_coefficients rows mults) h k)),
+  ),
+  (let f = s.constants in omega (arith, ints, f)),
+)
   where
     same : (v : ℕ) → entry sums v ≡ entry (sum_coefficients rows mults) v
     same v = let f = s.coefficients v in omega (arith, ints, f)

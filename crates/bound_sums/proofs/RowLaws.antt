@@ -8,7 +8,7 @@ use Rattle.bound_sums.specs.Bounding.{IsLine}
 use Rattle.bound_sums.specs.Sparse.{IsShortRoom, IsShortSide, full_row, room_rows, rows_of}
 use Rattle.bound_sums.specs.declared.rows.Line.{Line}
 use Rattle.bound_sums.specs.declared.rows.Line.TheVariants as Lines
-use Rattle.bound_sums.specs.declared.rows.SideRow.{SideRow}
+use Rattle.difference_polygon.specs.declared.rows.SideRow.{SideRow}
 
 length-room_rows : (width v : ℕ) (rooms : List ℤ) → length (room_rows width v rooms) ≡ length rooms
 length-room_rows width v [] = refl

@@ -9,7 +9,7 @@
 --   AreAdded t base row sums   each sum is that of before and t times the row's
 use Rattle.std.specs.Prelude.{◌≡◌, ◌≢◌, ℕ, ◌+◌, ◌*◌, ◌<◌, ◌≤◌, ◌^◌, ℤ, pos, neg_ℤ, ◌+ℤ◌, ◌*ℤ◌, List, [], ◌∷◌, ◌++◌, length, map, slice_index_or, slice_set, replicate, unsigned_abs}
 use Rattle.seq_model.specs.declared.row.Row.{Row}
-use Rattle.bound_sums.specs.declared.rows.SideRow.{SideRow}
+use Rattle.difference_polygon.specs.declared.rows.SideRow.{SideRow}
 use Rattle.bound_sums.specs.declared.rows.Line.{Line}
 use Rattle.bound_sums.specs.declared.rows.Line.TheVariants as Lines
 

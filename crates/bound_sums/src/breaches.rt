@@ -2,7 +2,8 @@ ghost use Rattle.std.specs.Prelude.{◌≡◌, ◌≤◌, ◌<◌, ◌+◌, ◌*
 ghost use Rattle.bound_sums.specs.Bounding.{IsLineOf, IsCounted, IsFirstBreach};
 ghost use Rattle.bound_sums.specs.Sparse.{constant_of, rows_of, IsShortSide, IsShortRoom};
 
-use crate::rows::{Line, SideRow, add_line};
+use crate::rows::{Line, add_line};
+use difference_polygon::SideRow;
 use seq_model::Mult;
 
 /// A rule that a bound may break: a multiplier names no row, some coefficients add up to more than 0, or the constants don't add up to

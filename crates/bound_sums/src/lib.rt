@@ -13,4 +13,4 @@ mod breaches;
 mod rows;
 
 pub use breaches::{Breach, first_breach};
-pub use rows::{Line, SideRow};
+pub use rows::Line;

@@ -2,17 +2,8 @@ ghost use Rattle.std.specs.Prelude.{◌≡◌, ◌≤◌, ◌<◌, ◌+◌, ◌*
 ghost use Rattle.std.specs.Prelude.{All};
 ghost use Rattle.bound_sums.specs.Sparse.{AreAdded, full_row, side_entries, IsSparse, IsShortSide, IsAtMost};
 
+use difference_polygon::SideRow;
 use seq_model::Mult;
-
-/// How far object j must lie from object i along a direction.
-#[derive(Clone, Copy, Debug)]
-pub struct SideRow {
-    pub c: i64,
-    pub x: i64,
-    pub y: i64,
-    pub i: u32,
-    pub j: u32,
-}
 
 /// A row of a system, by what isn't 0 in it: the room that is left for a variable, or a push.
 #[derive(Clone, Copy, Debug)]

@@ -3,7 +3,7 @@ use Rattle.std.proofs.Common.{◌≡◌, ℕ, zero, suc, ◌+◌, ◌-◌, ◌�
 use Rattle.std.proofs.lemmas.Bool.Decides.{nat_tests}
 use Rattle.std.proofs.lemmas.List.{length-take, length-take-le, get_or-take, get_or_append_left, take_all, take-take, take-append-le}
 use Rattle.std.proofs.Common.{min}
-use Rattle.bound_sums.specs.declared.rows.SideRow.{SideRow}
+use Rattle.difference_polygon.specs.declared.rows.SideRow.{SideRow}
 use Rattle.seq_model.specs.declared.job.Job.{Job}
 use Rattle.seq_model.specs.declared.tree.Choice.{Choice}
 use Rattle.seq_model.specs.declared.tree.Choice.TheVariants as Choices
@@ -59,16 +59,19 @@ side_count-side (Choices.Before a b ∷ path) contact dir = side_count-side path
 side_count-side (Choices.Side c d ∷ path) contact dir = ap suc (side_count-side path contact dir)
 
 -- ---- marks
+at_end : (l : List ℕ) (y : ℕ) → get_or (l ++ y ∷ []) (length l) 0 ≡ y
+at_end [] y = refl
+at_end (z ∷ l) y = at_end l y
+
 pub marks_cut : (k : ℕ) (path : List Choice) (marks : List ℕ) → AreMarked path marks → AreMarked (take k path) (take k marks)
 marks_cut k path marks m =
     let p = length-take k path in
-    let q = length-take k marks in
-    (
+    let q = length-take k marks in (
       q ∙ ap (λ n. min k n) m.0 ∙ sym p,
       λ j h.
           (let below : j < k = omega (arith, h, p) in
           let inside : j < length path = omega (arith, h, p) in
-          get_or-take k marks j 0 below ∙ m.1 j inside ∙ ap side_count (sym (take-take j k path (omega (arith, below)))))
+          get_or-take k marks j 0 below ∙ m.1 j inside ∙ ap side_count (sym (take-take j k path (omega (arith, below))))),
     )
 
 pub marks_more : (path : List Choice) (marks : List ℕ) (x : Choice) → AreMarked path marks → AreMarked (path ++ x ∷ []) (marks ++ side_count path ∷ [])
@@ -86,7 +89,3 @@ marks_more path marks x m =
         let at : j ≡ length path = omega (arith, outside, h) in
         let last : get_or (marks ++ side_count path ∷ []) (length marks) 0 ≡ side_count path = at_end marks (side_count path) in
         ap (λ n. get_or (marks ++ side_count path ∷ []) n 0) (at ∙ sym m.0) ∙ last ∙ ap side_count (sym (ap (λ n. take n (path ++ x ∷ [])) at ∙ take-append-le (length path) path (x ∷ []) (omega arith) ∙ take_all (length path) path (omega arith)))
-
-    at_end : (l : List ℕ) (y : ℕ) → get_or (l ++ y ∷ []) (length l) 0 ≡ y
-    at_end [] y = refl
-    at_end (z ∷ l) y = at_end l y

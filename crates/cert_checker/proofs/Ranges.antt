@@ -93,3 +93,6 @@ pub goes_last : (table path cut now : List Choice) (old left : List Frame) (f : 
 goes_last table path cut now old left f d o cuts nows nested last =
     goes_by table path now f (reverse left) (reverse left) old left (turned left old f o) refl
     (advanced_last table path now f (reverse left) d (subst (AreNested table (length path)) (turned left old f o) nested) (nows ∙ ap (λ t. t ++ get_or table f.next d ∷ []) cuts) last)
+
+pub nested_within : (table : List Choice) (d : ℕ) (old left : List Frame) (f : Frame) → old ≡ left ++ f ∷ [] → AreNested table d (reverse old) → f.next < length table
+nested_within table d old left f o nested = let n = subst (AreNested table d) (turned left old f o) nested in omega (arith, n.1, n.2)

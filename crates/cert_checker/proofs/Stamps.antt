@@ -1,9 +1,11 @@
 -- First places: where on a path an order stands first, kept beside the path and never undone.
-use Rattle.std.proofs.Common.{◌≡◌, ◌≢◌, ℕ, ◌+◌, ◌*◌, ◌≤◌, ◌<◌, List, [], ◌∷◌, ◌++◌, ◌⊎◌, inl, inr, length, get_or, set, take, Bool, true, false, ltb, eqb, Contains, refl, sym, ap, subst, ◌∙◌, arith, length-append, replicate}
+use Rattle.std.proofs.Common.{◌≡◌, ◌≢◌, ◌↔◌, ℕ, ◌+◌, ◌*◌, ◌≤◌, ◌<◌, List, [], ◌∷◌, ◌++◌, ◌⊎◌, inl, inr, length, get_or, set, take, Bool, true, false, ltb, eqb, Contains, refl, sym, ap, subst, ◌∙◌, arith, length-append, replicate}
 use Rattle.std.proofs.lemmas.Bool.Decides.{nat_tests}
 use Rattle.std.proofs.lemmas.List.{length-take, get_or-take, get_or_append_left, get_or_default, get_or-set_same, get_or-set_other, length-set}
 use Rattle.seq_model.specs.declared.tree.Choice.{Choice}
 use Rattle.seq_model.specs.declared.tree.Choice.TheVariants as Choices
+use Rattle.seq_model.specs.declared.tree.Contact.{Contact}
+use Rattle.seq_model.specs.declared.tree.Dir.{Dir}
 use Rattle.cert_checker.specs.Trails.{IsStamped, stamp_at}
 
 -- the test, and what it says
@@ -82,3 +84,26 @@ new_stamp path stamps now a b m n long s none is i j q d k l within at = by (las
         let here : stamp_at now a b ≡ length path = ap (λ t. get_or t (16 * a + b) 0) is ∙ get_or-set_same stamps (16 * a + b) (length path) 0 (omega (arith, long, m, n)) in
         let place : stamp_at now i j ≡ length path = ap (λ n. stamp_at now n j) (sym numbers.0) ∙ ap (λ n. stamp_at now a n) (sym numbers.1) ∙ here in
         (omega (arith, place, e), ap (λ n. get_or (path ++ Choices.Before a b ∷ []) n d) place ∙ at_last path (Choices.Before a b) d ∙ is_it)
+
+pub side_stamps : (path : List Choice) (stamps : List ℕ) (contact : Contact) (dir : Dir) → IsStamped path stamps → IsStamped (path ++ Choices.Side contact dir ∷ []) stamps
+side_stamps path stamps contact dir s = same_stamps path stamps (Choices.Side contact dir) s (λ i j k l e. absurd cc)
+
+pub far_stamps_i : (path : List Choice) (stamps : List ℕ) (i j : ℕ) → 16 ≤ i → IsStamped path stamps → IsStamped (path ++ Choices.Before i j ∷ []) stamps
+far_stamps_i path stamps i j far s = same_stamps path stamps (Choices.Before i j) s (λ a b k l e. absurd (omega (arith, far, k, (pair_of i j a b e).0)))
+
+pub far_stamps_j : (path : List Choice) (stamps : List ℕ) (i j : ℕ) → 16 ≤ j → IsStamped path stamps → IsStamped (path ++ Choices.Before i j ∷ []) stamps
+far_stamps_j path stamps i j far s = same_stamps path stamps (Choices.Before i j) s (λ a b k l e. absurd (omega (arith, far, l, (pair_of i j a b e).1)))
+
+pub known_stamps : (path : List Choice) (stamps : List ℕ) (i j : ℕ) → Contains path (Choices.Before i j) → IsStamped path stamps → IsStamped (path ++ Choices.Before i j ∷ []) stamps
+known_stamps path stamps i j c s = same_stamps path stamps (Choices.Before i j) s (λ a b k l e. subst (Contains path) e c)
+
+-- ---- as the test finds it
+pub stamp_over : (path : List Choice) (stamps : List ℕ) (i j place : ℕ) → i < 16 → j < 16 → IsStamped path stamps → place ≡ stamp_at stamps i j → length path ≤ place → Contains path (Choices.Before i j) → ⊥
+stamp_over path stamps i j place k l s is over c = let r = there path stamps i j (Choices.Before i j) k l s c in omega (arith, r.0, is, over)
+
+pub stamp_decides : (path : List Choice) (stamps : List ℕ) (i j place : ℕ) (d : Choice) (P : Type 0) → i < 16 → j < 16 → IsStamped path stamps → place ≡ stamp_at stamps i j → place < length path
+    → (P ↔ (get_or path place d ≡ Choices.Before i j)) → P ↔ Contains path (Choices.Before i j)
+stamp_decides path stamps i j place d P k l s is within test = (
+  λ p. is_there path stamps i j d (subst (λ n. n < length path) is within) (subst (λ n. get_or path n d ≡ Choices.Before i j) is (test.0 p)),
+  λ c. test.1 (subst (λ n. get_or path n d ≡ Choices.Before i j) (sym is) (there path stamps i j d k l s c).1),
+)

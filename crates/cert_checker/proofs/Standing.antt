@@ -11,7 +11,7 @@ use Rattle.cert_checker.specs.Kept.{AreChoices, node_at, range_of}
 use Rattle.cert_checker.proofs.Ranges.{opened, range_empty}
 use Rattle.cert_checker.specs.Rules.{Breaks, Good, IsFirstBroken}
 use Rattle.cert_checker.specs.Waits.{also_each, waiting, AreNested}
-use Rattle.cert_checker.proofs.Walking.{one_more, all_read, more_follow, first_broken}
+use Rattle.cert_checker.proofs.Steps.{one_more, all_read, more_follow, first_broken}
 use Rattle.cert_checker.specs.Wholes.{AreWhole}
 use Rattle.cert_checker.specs.declared.frames.Frame.{Frame}
 use Rattle.cert_checker.specs.declared.rules.Rule.{Rule}

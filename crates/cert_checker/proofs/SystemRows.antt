@@ -3,7 +3,7 @@ use Rattle.std.proofs.Common.{◌≡◌, ℕ, zero, suc, ◌+◌, ◌*◌, ◌<�
 use Rattle.std.proofs.lemmas.List.Elements.{All-nil, All-cons}
 use Rattle.bound_sums.specs.Sparse.{IsShortSide, full_row, room_rows, rows_of}
 use Rattle.bound_sums.specs.declared.rows.Line.TheVariants as Lines
-use Rattle.bound_sums.specs.declared.rows.SideRow.{SideRow}
+use Rattle.difference_polygon.specs.declared.rows.SideRow.{SideRow}
 use Rattle.seq_model.specs.Systems.{bounds_of, side_row, side_rows, system}
 use Rattle.seq_model.specs.declared.job.Job.{Job}
 use Rattle.seq_model.specs.declared.job.Object.{Object}

@@ -109,3 +109,7 @@ one_first_broken job e nodes j k a b f g =
 pub fails_exactly : (job : Job) (e : ℕ) (nodes : List Node) (c : Checked) → IsChecked job e nodes c → (k : ℕ) (rule : Rule) → (c ≡ checked.Fails k rule) ↔ IsFirstBroken job e nodes k rule
 fails_exactly job e nodes checked.Passes is k rule = (λ h. absurd cc, λ f. absurd (refutes_breaks_none job e nodes k rule is f))
 fails_exactly job e nodes (checked.Fails j a) is k rule = (λ h. subst (IsChecked job e nodes) h is, λ f. (let o = one_first_broken job e nodes j k a rule is f in ap (λ n. checked.Fails n a) o.0 ∙ ap (checked.Fails k) o.1))
+
+-- the same of a slice of the nodes
+pub checked_as : (job : Job) (e f : ℕ) (nodes slice : List Node) (c : Checked) → e ≡ f → slice ≡ nodes → IsChecked job e slice c → IsChecked job f nodes c
+checked_as job e f nodes slice c same is h = subst (λ n. IsChecked job f n c) is (subst (λ x. IsChecked job x slice c) same h)

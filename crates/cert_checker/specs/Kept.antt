@@ -20,7 +20,7 @@ use Rattle.seq_model.specs.declared.tree.Dir.{Dir}
 use Rattle.seq_model.specs.declared.tree.Node.{Node}
 use Rattle.seq_model.specs.declared.tree.Node.TheVariants as Nodes
 use Rattle.bound_sums.specs.Sparse.{IsShortRoom}
-use Rattle.bound_sums.specs.declared.rows.SideRow.{SideRow}
+use Rattle.difference_polygon.specs.declared.rows.SideRow.{SideRow}
 use Rattle.cert_checker.specs.Rooms.{rooms_of}
 use Rattle.cert_checker.specs.Rules.{HasAsManySides}
 use Rattle.cert_checker.specs.Trails.{IsRowFor}

@@ -15,7 +15,7 @@ use Rattle.std.specs.Prelude.{◌≡◌, ℕ, zero, suc, ◌+◌, ◌*◌, ◌<�
 use Rattle.std.specs.Vec.{vec_capacity}
 use Rattle.bound_sums.specs.Sparse.{IsShortSide, full_row}
 use Rattle.bound_sums.specs.declared.rows.Line.TheVariants as Lines
-use Rattle.bound_sums.specs.declared.rows.SideRow.{SideRow}
+use Rattle.difference_polygon.specs.declared.rows.SideRow.{SideRow}
 use Rattle.seq_model.specs.Systems.{side_row}
 use Rattle.seq_model.specs.declared.job.Job.{Job}
 use Rattle.seq_model.specs.declared.tree.Choice.{Choice}

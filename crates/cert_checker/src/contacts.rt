@@ -1,5 +1,5 @@
 // Whether what a split names is there.
-ghost use Rattle.std.specs.Prelude.{◌×◌, ◌<◌, length, IsTrue, ◌↔◌};
+ghost use Rattle.std.specs.Prelude.{◌<◌, length, IsTrue, ◌↔◌};
 ghost use Rattle.seq_model.specs.Contacts.{IsContact};
 
 use printer_envelopes::zones_meet;

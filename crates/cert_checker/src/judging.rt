@@ -16,7 +16,8 @@ use crate::cycles::runs_in_circle;
 use crate::kept::Kept;
 use crate::rules::Rule;
 use crate::trail::Trail;
-use bound_sums::{Breach, SideRow, first_breach};
+use bound_sums::{Breach, first_breach};
+use difference_polygon::SideRow;
 use seq_model::{Contact, Job, Mult, Node};
 
 /// What is said of one node at its path: the first rule that it breaks, or between which places its children's choices stand.
@@ -40,12 +41,7 @@ fn side_rule(job: &Job, trail: &Trail, contact: &Contact) -> Option<Rule>
     None
 }
 
-fn bound_rule(
-    rooms: &[i64],
-    rows: &[SideRow],
-    mults: &[Mult],
-    sums: &mut [i128],
-) -> Option<Rule>
+fn bound_rule(rooms: &[i64], rows: &[SideRow], mults: &[Mult], sums: &mut [i128]) -> Option<Rule>
     requires rooms { All IsShortRoom rooms.now }
     requires rows { All (IsShortSide (length rooms.now)) rows.now }
     requires few { length mults.now ≤ 33 }
@@ -64,13 +60,7 @@ fn bound_rule(
 }
 
 // The first rule that a node breaks, but for its number of children.
-fn own_rule(
-    job: &Job,
-    kept: &Kept,
-    node: &Node,
-    trail: &Trail,
-    sums: &mut [i128],
-) -> Option<Rule>
+fn own_rule(job: &Job, kept: &Kept, node: &Node, trail: &Trail, sums: &mut [i128]) -> Option<Rule>
     requires rooms { AreRoomsOf job.now kept.now }
     requires fit { IsFit trail.now }
     requires rows { HasRows job.now trail.now }

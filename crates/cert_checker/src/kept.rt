@@ -12,8 +12,7 @@ ghost use Rattle.cert_checker.specs.Trails.{IsRowFor, IsRowOf};
 
 use crate::contacts::exists;
 use crate::rooms::rooms;
-use bound_sums::SideRow;
-use difference_polygon::{side_row, sides_of};
+use difference_polygon::{SideRow, side_row, sides_of};
 use seq_model::{Choice, Contact, Dir, Job, Node};
 use seq_num::NoMemory;
 use std::alloc::{AllocError, Global};
@@ -75,6 +74,13 @@ fn sides_of_contact(alloc: Global, job: &Job, contact: &Contact) -> Result<Vec<D
     )
 }
 
+fn note(ranges: &mut Vec<Range>, range: Range) -> Result<(), AllocError>
+    ensures { OnOk result (ranges.new.items ≡ ranges.old.items ++ range ∷ []) }
+{
+    ranges.push(range)?;
+    Ok(())
+}
+
 impl Table {
     fn new(alloc: Global) -> Table
         ensures choices { result.choices.items ≡ [] }
@@ -115,13 +121,25 @@ impl Table {
     {
         for dir in dirs {
             let row = row_of(job, contact, dir);
-            self.push(&Choice::Side { contact: *contact, dir: *dir }, &row)?;
+            self.push(
+                &Choice::Side {
+                    contact: *contact,
+                    dir: *dir,
+                },
+                &row,
+            )?;
         }
         Ok(())
     }
 
     // The range of a side split, or None where it can't be a split with so many children.
-    fn side_range(&mut self, alloc: Global, job: &Job, contact: &Contact, children: u32) -> Result<Option<Range>, NoMemory>
+    fn side_range(
+        &mut self,
+        alloc: Global,
+        job: &Job,
+        contact: &Contact,
+        children: u32,
+    ) -> Result<Option<Range>, NoMemory>
         ensures range { IfOk result (λ r. IfSome r (HasRange job.now self.new.choices.items (Nodes.Side contact.now children))) }
         ensures stuck { IfOk result (λ r. IfNone r (IsStuck job.now (Nodes.Side contact.now children))) }
         ensures grown { OnOk result ((more : List Choice) × (self.new.choices.items ≡ self.old.choices.items ++ more)) }
@@ -182,7 +200,7 @@ impl Table {
             let Some(range) = self.range(alloc, job, node)? else {
                 return Ok(ranges);
             };
-            ranges.push(range)?;
+            note(&mut ranges, range)?;
         }
         Ok(ranges)
     }

@@ -3,10 +3,12 @@ ghost use Rattle.std.specs.Prelude.{◌≡◌, ◌+◌, ◌≤◌, ◌<◌, ◌�
 ghost use Rattle.seq_model.specs.declared.job.Job.{Job};
 ghost use Rattle.seq_model.specs.declared.tree.Choice.{Choice};
 ghost use Rattle.seq_model.specs.declared.tree.Choice.TheVariants as Choices;
+ghost use Rattle.seq_model.specs.declared.tree.Contact.{Contact};
+ghost use Rattle.seq_model.specs.declared.tree.Dir.{Dir};
 ghost use Rattle.cert_checker.specs.Trails.{IsFit, IsRowFor, IsStamped, HasRoom, HasRows, stamp_at};
 
 use crate::frames::put;
-use bound_sums::SideRow;
+use difference_polygon::SideRow;
 use seq_model::Choice;
 use std::alloc::{AllocError, Global};
 
@@ -45,7 +47,10 @@ fn is_stamped(path: &[Choice], stamps: &[usize], i: u32, j: u32) -> bool
     ensures { IsTrue result ↔ Contains path.now (Choices.Before i j) }
 {
     let place = stamp_of(stamps, i, j);
-    place < path.len() && is_order(&path[place], i, j)
+    if place >= path.len() {
+        return false;
+    }
+    is_order(&path[place], i, j)
 }
 
 fn is_on(path: &[Choice], stamps: &[usize], i: u32, j: u32) -> bool
@@ -63,13 +68,19 @@ fn is_on(path: &[Choice], stamps: &[usize], i: u32, j: u32) -> bool
 }
 
 // Notes the place of an order that is to stand at the end of the path, if it stands nowhere else.
-fn stamp(path: &[Choice], stamps: &mut [usize], i: u32, j: u32)
-    requires many { length stamps.old ≡ 256 }
-    requires stamped { IsStamped path.now stamps.old }
-    ensures many { length stamps.new ≡ 256 }
-    ensures stamped { IsStamped (path.now ++ Choices.Before i j ∷ []) stamps.new }
+fn stamp(path: &[Choice], stamps: &mut Vec<usize>, i: u32, j: u32)
+    requires many { length stamps.old.items ≡ 256 }
+    requires stamped { IsStamped path.now stamps.old.items }
+    ensures many { length stamps.new.items ≡ 256 }
+    ensures stamped { IsStamped (path.now ++ Choices.Before i j ∷ []) stamps.new.items }
 {
-    if i < 16 && j < 16 && !is_stamped(path, stamps, i, j) {
+    if i >= 16 {
+        return;
+    }
+    if j >= 16 {
+        return;
+    }
+    if !is_stamped(path, stamps.as_slice(), i, j) {
         stamps[16 * i as usize + j as usize] = path.len();
     }
 }
@@ -111,11 +122,40 @@ impl Trail {
         ensures rows { (job : Job) → HasRows job self.old → HasRows job self.new }
         ensures room { (n : ℕ) → HasRoom self.old n → HasRoom self.new n }
     {
-        if depth < self.marks.len() {
-            self.rows.truncate(self.marks[depth]);
-            self.marks.truncate(depth);
+        if depth >= self.marks.len() {
+            self.path.truncate(depth);
+            return;
         }
+        self.rows.truncate(self.marks[depth]);
+        self.marks.truncate(depth);
         self.path.truncate(depth);
+    }
+
+    fn go_order(&mut self, i: u32, j: u32)
+        requires fit { IsFit self.old }
+        requires room { HasRoom self.old (length self.old.path.items + 1) }
+        ensures path { self.new.path.items ≡ self.old.path.items ++ Choices.Before i j ∷ [] }
+        ensures fit { IsFit self.new }
+        ensures rows { (job : Job) → HasRows job self.old → HasRows job self.new }
+        ensures room { (n : ℕ) → HasRoom self.old n → HasRoom self.new n }
+    {
+        stamp(self.path.as_slice(), &mut self.stamps, i, j);
+        put(&mut self.marks, self.rows.len());
+        put(&mut self.path, Choice::Before { i, j });
+    }
+
+    fn go_side(&mut self, side: &Choice, row: &SideRow)
+        requires fit { IsFit self.old }
+        requires room { HasRoom self.old (length self.old.path.items + 1) }
+        ensures path { self.new.path.items ≡ self.old.path.items ++ side.now ∷ [] }
+        ensures fit { (contact : Contact) (dir : Dir) → side.now ≡ Choices.Side contact dir → IsFit self.new }
+        ensures rows { (job : Job) (contact : Contact) (dir : Dir) → side.now ≡ Choices.Side contact dir
+            → HasRows job self.old → IsRowFor job side.now row.now → HasRows job self.new }
+        ensures room { (n : ℕ) → HasRoom self.old n → HasRoom self.new n }
+    {
+        put(&mut self.marks, self.rows.len());
+        put(&mut self.rows, *row);
+        put(&mut self.path, *side);
     }
 
     /// One choice more at the end, with its row where it is a side.
@@ -127,11 +167,9 @@ impl Trail {
         ensures rows { (job : Job) → HasRows job self.old → IsRowFor job choice.now row.now → HasRows job self.new }
         ensures room { (n : ℕ) → HasRoom self.old n → HasRoom self.new n }
     {
-        put(&mut self.marks, self.rows.len());
         match choice {
-            Choice::Before { i, j } => stamp(self.path.as_slice(), self.stamps.as_mut_slice(), *i, *j),
-            Choice::Side { .. } => put(&mut self.rows, *row),
+            Choice::Before { i, j } => self.go_order(*i, *j),
+            Choice::Side { .. } => self.go_side(choice, row),
         }
-        put(&mut self.path, *choice);
     }
 }
