@@ -1,5 +1,5 @@
 -- Choices with their rows, and ranges of them.
-use Rattle.std.proofs.Common.{◌≡◌, ◌≢◌, ℕ, zero, suc, ◌+◌, ◌-◌, ◌≤◌, ◌<◌, List, [], ◌∷◌, ◌++◌, ◌⊎◌, inl, inr, length, get_or, take, drop, map, Bool, true, false, ltb, refl, sym, ap, subst, ◌∙◌, arith, length-append, append_assoc, append-nil}
+use Rattle.std.proofs.Common.{◌≡◌, ◌≢◌, All, ℕ, zero, suc, ◌+◌, ◌-◌, ◌≤◌, ◌<◌, List, [], ◌∷◌, ◌++◌, ◌⊎◌, inl, inr, length, get_or, take, drop, map, Bool, true, false, ltb, refl, sym, ap, subst, ◌∙◌, arith, length-append, append_assoc, append-nil}
 use Rattle.std.proofs.Math.Path.{subst₂}
 use Rattle.std.proofs.lemmas.Bool.Decides.{nat_tests}
 use Rattle.std.proofs.lemmas.List.{take_more, take_all, map-append, length-map, get_or_append_left, get_or_default, take-append-le}
@@ -15,7 +15,13 @@ use Rattle.seq_model.specs.declared.tree.Contact.{Contact}
 use Rattle.seq_model.specs.declared.tree.Dir.{Dir}
 use Rattle.seq_model.specs.declared.tree.Node.{Node}
 use Rattle.seq_model.specs.declared.tree.Node.TheVariants as Nodes
-use Rattle.cert_checker.specs.Kept.{AreChoices, AreRanges, HasRange, HasRowsBeside, IsStuck, no_range, node_at, range_of}
+use Rattle.std.specs.BTreeMap.{insert_entry}
+use Rattle.std.specs.List.{IsAmong}
+use Rattle.std.proofs.Common.{Ordering, Less, Equal, Greater}
+use Rattle.std.specs.Ordering.{match_ordering}
+use Rattle.std.proofs.lemmas.List.Elements.{All-head, All-tail, All-cons, All-weaker}
+use Rattle.cert_checker.specs.declared.kept.Met.{Met}
+use Rattle.cert_checker.specs.Kept.{AreChoices, AreMet, AreRanges, Extends, HasRange, HasSidesAt, HasRowsBeside, IsStuck, no_range, node_at, range_of}
 use Rattle.cert_checker.specs.Rules.{HasAsManySides}
 use Rattle.cert_checker.specs.Trails.{IsRowFor}
 use Rattle.cert_checker.specs.declared.kept.Range.{Range}
@@ -133,3 +139,43 @@ ranges_stop job choices now more nodes i node ranges within is grown r stuck = r
 
 pub ranges_all : (job : Job) (choices : List Choice) (nodes : List Node) (i : ℕ) (ranges : List Range) → length nodes ≤ i → i ≤ length nodes → Ranging job choices nodes i ranges → AreRanges job choices nodes ranges
 ranges_all job choices nodes i ranges over within r = record { few = omega (arith, within, r.many); each = r.each; rest = λ h. absurd (omega (arith, h, over, r.many)) }
+
+-- ---- contacts that were met
+insert_all : {K X : Type 0} (cmp : K → K → Ordering) (Q : X → Type 0) (es : List (K × X)) (k : K) (v : X) → All Q (map (λ (e : K × X). e.1) es) → Q v → All Q (map (λ (e : K × X). e.1) (insert_entry cmp es k v))
+insert_all cmp Q [] k v all is = All-cons Q v [] is all
+insert_all {K} {X} cmp Q (e ∷ es) k v all is = by (cmp k e.0) (insert_all cmp Q es k v rest is)
+  where
+    rest : All Q (map (λ (f : K × X). f.1) es)
+    rest = All-tail Q e.1 (map (λ (f : K × X). f.1) es) all
+
+    by : (o : Ordering) → All Q (map (λ (f : K × X). f.1) (insert_entry cmp es k v)) → All Q (map (λ (f : K × X). f.1) (match_ordering o ((k, v) ∷ e ∷ es) ((e.0, v) ∷ es) (e ∷ insert_entry cmp es k v)))
+    by Less more = All-cons Q v (map (λ (f : K × X). f.1) (e ∷ es)) is all
+    by Equal more = All-cons Q v (map (λ (f : K × X). f.1) es) is rest
+    by Greater more = All-cons Q e.1 (map (λ (f : K × X). f.1) (insert_entry cmp es k v)) (All-head Q e.1 (map (λ (f : K × X). f.1) es) all) more
+
+pub none_met : (job : Job) (choices : List Choice) (entries : List (Contact × Met)) → entries ≡ [] → AreMet job choices (map (λ (e : Contact × Met). e.1) entries)
+none_met job choices entries none k d h = absurd (omega (arith, h, ap (λ l. length (map (λ (e : Contact × Met). e.1) l)) none))
+
+pub remembered : {K X : Type 0} (cmp : K → K → Ordering) (Q : X → Type 0) (es now : List (K × X)) (k : K) (v : X) → now ≡ insert_entry cmp es k v → All Q (map (λ (e : K × X). e.1) es) → Q v → All Q (map (λ (e : K × X). e.1) now)
+remembered {K} {X} cmp Q es now k v e all is = subst (λ l. All Q (map (λ (f : K × X). f.1) l)) (sym e) (insert_all cmp Q es k v all is)
+
+pub met_among : (job : Job) (choices : List Choice) (met : List Met) (found : Met) (contact : Contact) → IsAmong met found → found.contact ≡ contact → AreMet job choices met → HasSidesAt job choices contact found.range
+met_among job choices met found contact among same all =
+    subst (λ c. HasSidesAt job choices c found.range) same (subst (λ (m : Met). HasSidesAt job choices m.contact m.range) (sym among.1.1) (all among.0 found among.1.0))
+
+pub met_grown : (job : Job) (xs ys : List Choice) (met : List Met) → Extends xs ys → AreMet job xs met → AreMet job ys met
+met_grown job xs ys met grown all = All-weaker (λ (m : Met). HasSidesAt job xs m.contact m.range) (λ (m : Met). HasSidesAt job ys m.contact m.range)
+    (λ m h. has_range_grown job xs ys grown.0 (Nodes.Side m.contact (m.range.to - m.range.from)) m.range grown.1 h) met all
+
+pub new_sides_at : (job : Job) (contact : Contact) (dirs : List Dir) (old now : List Choice) (from to : ℕ) → AreSides (points_of job contact) dirs → now ≡ old ++ map (Choices.Side contact) dirs → from ≡ length old → to ≡ length now
+    → HasSidesAt job now contact (record { from = from; to = to })
+new_sides_at job contact dirs old now from to sides e f t =
+    let n = ap length e ∙ length-append old (map (λ d. Choices.Side contact d) dirs) in
+    side_range_is job contact (to - from) dirs old now from to sides (omega (arith, n, f, t, length-map dirs (λ d. Choices.Side contact d))) e f t
+
+-- the contact has other sides than there are children
+pub other_children : (job : Job) (choices : List Choice) (contact : Contact) (children : ℕ) (range : Range) → HasSidesAt job choices contact range → range.to - range.from ≢ children → HasAsManySides job contact children → ⊥
+other_children job choices contact children range h other = stuck_by job contact children h.choices_are.0 h.choices_are.1 (λ e. other (h.choices_are.2 ∙ e))
+
+pub side_range_by : (job : Job) (choices : List Choice) (contact : Contact) (children : ℕ) (range : Range) → HasSidesAt job choices contact range → range.to - range.from ≡ children → HasRange job choices (Nodes.Side contact children) range
+side_range_by job choices contact children range h e = subst (λ n. HasRange job choices (Nodes.Side contact n) range) e h

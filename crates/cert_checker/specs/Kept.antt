@@ -4,11 +4,14 @@
 --   AreChoices job node choices   the choices by which the node's children go on, in their order
 --   HasRange job choices node range   its two places are there, in this order, and between them the choices of the node's children
 --   IsStuck job node              the node is a side split with other children than its contact has sides, if the contact exists
+--   HasSidesAt job choices contact range   the range has the sides of the contact
+--   AreMet job choices met        so it is for each contact that was met
+--   Extends old new               the choices went on
 --   AreRanges job choices nodes ranges   the ranges are those of the first nodes: of all, or of all before one that is stuck
 --   HasRowsBeside job choices rows   beside each side of the choices stands its row
 --   AreRoomsOf job kept           the rooms are those that its extent leaves
 --   IsKept job nodes kept         they are, the choices have their rows, and the ranges are those of the nodes
-use Rattle.std.specs.Prelude.{◌≡◌, ℕ, ◌-◌, ◌<◌, ◌≤◌, List, [], ◌∷◌, All, drop, length, map, take, slice_index_or, ◌⊎◌}
+use Rattle.std.specs.Prelude.{◌≡◌, ℕ, ◌-◌, ◌<◌, ◌≤◌, List, [], ◌∷◌, ◌++◌, All, drop, length, map, take, slice_index_or, ◌⊎◌}
 use Rattle.std.specs.List.{AllZip}
 use Rattle.seq_model.specs.Contacts.{IsContact, points_of}
 use Rattle.seq_model.specs.Sides.{AreSides}
@@ -25,6 +28,7 @@ use Rattle.cert_checker.specs.Rooms.{rooms_of}
 use Rattle.cert_checker.specs.Rules.{HasAsManySides}
 use Rattle.cert_checker.specs.Trails.{IsRowFor}
 use Rattle.cert_checker.specs.declared.kept.Kept.{Kept}
+use Rattle.cert_checker.specs.declared.kept.Met.{Met}
 use Rattle.cert_checker.specs.declared.kept.Range.{Range}
 
 abbrev pub node_at : List Node → ℕ → Node
@@ -55,6 +59,15 @@ IsStuck job (Nodes.Side contact children) = IsContact job contact → HasAsManyS
 IsStuck job (Nodes.Bound mults) = ⊥
 IsStuck job (Nodes.Cycle objects) = ⊥
 IsStuck job Nodes.Pending = ⊥
+
+abbrev pub HasSidesAt : Job → List Choice → Contact → Range → Type 0
+HasSidesAt job choices contact range = HasRange job choices (Nodes.Side contact (range.to - range.from)) range
+
+abbrev pub AreMet : Job → List Choice → List Met → Type 0
+AreMet job choices met = All (λ (m : Met). HasSidesAt job choices m.contact m.range) met
+
+abbrev pub Extends : List Choice → List Choice → Type 0
+Extends old new = (more : List Choice) × (new ≡ old ++ more)
 
 pub record AreRanges (job : Job) (choices : List Choice) (nodes : List Node) (ranges : List Range) : Type 0 where
   pub few : length ranges ≤ length nodes

@@ -1,5 +1,6 @@
 // What is made once for a whole tree: the sides of its contacts, and the choices of its splits.
-ghost use Rattle.std.specs.Prelude.{◌≡◌, ◌≤◌, ◌++◌, ◌∷◌, [], List, All, length, map, IfOk, OnOk, IfSome, IfNone};
+ghost use Rattle.std.specs.Prelude.{◌≡◌, ◌≤◌, ◌++◌, ◌∷◌, [], List, All, length, map, IfOk, OnOk, IfSome, IfNone, IsTrue, ◌↔◌};
+ghost use Rattle.std.specs.BTreeMap.{values};
 ghost use Rattle.outline_laws.specs.Directions.{IsShort};
 ghost use Rattle.seq_model.specs.Contacts.{IsContact, points_of};
 ghost use Rattle.seq_model.specs.Sides.{AreSides};
@@ -7,7 +8,7 @@ ghost use Rattle.seq_model.specs.declared.job.Job.{Job};
 ghost use Rattle.seq_model.specs.declared.tree.Choice.{Choice};
 ghost use Rattle.seq_model.specs.declared.tree.Choice.TheVariants as Choices;
 ghost use Rattle.seq_model.specs.declared.tree.Node.TheVariants as Nodes;
-ghost use Rattle.cert_checker.specs.Kept.{AreRanges, HasRange, HasRowsBeside, IsKept, IsStuck};
+ghost use Rattle.cert_checker.specs.Kept.{AreMet, AreRanges, Extends, HasRange, HasSidesAt, HasRowsBeside, IsKept, IsStuck};
 ghost use Rattle.cert_checker.specs.Trails.{IsRowFor, IsRowOf};
 
 use crate::contacts::exists;
@@ -16,12 +17,20 @@ use difference_polygon::{SideRow, side_row, sides_of};
 use seq_model::{Choice, Contact, Dir, Job, Node};
 use seq_num::NoMemory;
 use std::alloc::{AllocError, Global};
+use std::collections::BTreeMap;
 
 /// Places of a table, from one up to another.
 #[derive(Clone, Copy, Debug)]
 pub struct Range {
     pub from: usize,
     pub to: usize,
+}
+
+/// A contact that was met, and where its sides stand.
+#[derive(Clone, Copy, Debug)]
+pub struct Met {
+    pub contact: Contact,
+    pub range: Range,
 }
 
 /// Choices, each with its row where it is a side.
@@ -72,6 +81,41 @@ fn sides_of_contact(alloc: Global, job: &Job, contact: &Contact) -> Result<Vec<D
         b.corners.as_slice(),
         part.corners.as_slice(),
     )
+}
+
+fn is_same(a: &Contact, b: &Contact) -> bool
+    ensures { IsTrue result ↔ (a.now ≡ b.now) }
+{
+    *a == *b
+}
+
+// Where the sides of a contact stand, if it was met.
+fn known(met: &BTreeMap<Contact, Met>, contact: &Contact) -> Option<Range>
+    ensures { (job : Job) (choices : List Choice) → AreMet job choices (values met.now) → IfSome result (HasSidesAt job choices contact.now) }
+{
+    let found = met.get(contact)?;
+    if !is_same(&found.contact, contact) {
+        return None;
+    }
+    Some(found.range)
+}
+
+fn remember(
+    met: &mut BTreeMap<Contact, Met>,
+    contact: &Contact,
+    range: &Range,
+) -> Result<(), AllocError>
+    ensures { (job : Job) (choices : List Choice) → AreMet job choices (values met.old) → HasSidesAt job choices contact.now range.now
+        → OnOk result (AreMet job choices (values met.new)) }
+{
+    met.insert(
+        *contact,
+        Met {
+            contact: *contact,
+            range: *range,
+        },
+    )?;
+    Ok(())
 }
 
 fn note(ranges: &mut Vec<Range>, range: Range) -> Result<(), AllocError>
@@ -132,38 +176,87 @@ impl Table {
         Ok(())
     }
 
-    // The range of a side split, or None where it can't be a split with so many children.
-    fn side_range(
+    // The sides of a contact that wasn't met before; None where it doesn't exist.
+    fn new_sides(
         &mut self,
         alloc: Global,
         job: &Job,
+        met: &mut BTreeMap<Contact, Met>,
         contact: &Contact,
-        children: u32,
     ) -> Result<Option<Range>, NoMemory>
-        ensures range { IfOk result (λ r. IfSome r (HasRange job.now self.new.choices.items (Nodes.Side contact.now children))) }
-        ensures stuck { IfOk result (λ r. IfNone r (IsStuck job.now (Nodes.Side contact.now children))) }
-        ensures grown { OnOk result ((more : List Choice) × (self.new.choices.items ≡ self.old.choices.items ++ more)) }
+        requires met { AreMet job.now self.old.choices.items (values met.old) }
+        ensures range { IfOk result (λ r. IfSome r (HasSidesAt job.now self.new.choices.items contact.now)) }
+        ensures none { IfOk result (λ r. IfNone r (IsContact job.now contact.now → ⊥)) }
+        ensures grown { OnOk result (Extends self.old.choices.items self.new.choices.items) }
         ensures rows { HasRowsBeside job.now self.old.choices.items self.old.rows.items
             → OnOk result (HasRowsBeside job.now self.new.choices.items self.new.rows.items) }
+        ensures met { OnOk result (AreMet job.now self.new.choices.items (values met.new)) }
     {
         if !exists(job, contact) {
             return Ok(None);
         }
         let dirs = sides_of_contact(alloc, job, contact)?;
-        if dirs.len() != children as usize {
-            return Ok(None);
-        }
         let from = self.choices.len();
         self.push_sides(job, contact, dirs.as_slice())?;
-        Ok(Some(Range {
+        let range = Range {
             from,
             to: self.choices.len(),
-        }))
+        };
+        remember(met, contact, &range)?;
+        Ok(Some(range))
+    }
+
+    // The sides of a contact, made where it wasn't met before; None where it doesn't exist.
+    fn sides(
+        &mut self,
+        alloc: Global,
+        job: &Job,
+        met: &mut BTreeMap<Contact, Met>,
+        contact: &Contact,
+    ) -> Result<Option<Range>, NoMemory>
+        requires met { AreMet job.now self.old.choices.items (values met.old) }
+        ensures range { IfOk result (λ r. IfSome r (HasSidesAt job.now self.new.choices.items contact.now)) }
+        ensures none { IfOk result (λ r. IfNone r (IsContact job.now contact.now → ⊥)) }
+        ensures grown { OnOk result (Extends self.old.choices.items self.new.choices.items) }
+        ensures rows { HasRowsBeside job.now self.old.choices.items self.old.rows.items
+            → OnOk result (HasRowsBeside job.now self.new.choices.items self.new.rows.items) }
+        ensures met { OnOk result (AreMet job.now self.new.choices.items (values met.new)) }
+    {
+        if let Some(range) = known(met, contact) {
+            return Ok(Some(range));
+        }
+        self.new_sides(alloc, job, met, contact)
+    }
+
+    // The range of a side split, or None where it can't be a split with so many children.
+    fn side_range(
+        &mut self,
+        alloc: Global,
+        job: &Job,
+        met: &mut BTreeMap<Contact, Met>,
+        contact: &Contact,
+        children: u32,
+    ) -> Result<Option<Range>, NoMemory>
+        requires met { AreMet job.now self.old.choices.items (values met.old) }
+        ensures range { IfOk result (λ r. IfSome r (HasRange job.now self.new.choices.items (Nodes.Side contact.now children))) }
+        ensures stuck { IfOk result (λ r. IfNone r (IsStuck job.now (Nodes.Side contact.now children))) }
+        ensures grown { OnOk result (Extends self.old.choices.items self.new.choices.items) }
+        ensures rows { HasRowsBeside job.now self.old.choices.items self.old.rows.items
+            → OnOk result (HasRowsBeside job.now self.new.choices.items self.new.rows.items) }
+        ensures met { OnOk result (AreMet job.now self.new.choices.items (values met.new)) }
+    {
+        let Some(range) = self.sides(alloc, job, met, contact)? else {
+            return Ok(None);
+        };
+        if range.to - range.from != children as usize {
+            return Ok(None);
+        }
+        Ok(Some(range))
     }
 
     fn order_range(&mut self, i: u32, j: u32) -> Result<Range, AllocError>
         ensures range { IfOk result (λ r. (job : Job) → HasRange job self.new.choices.items (Nodes.Order i j) r) }
-        ensures grown { OnOk result ((more : List Choice) × (self.new.choices.items ≡ self.old.choices.items ++ more)) }
+        ensures grown { OnOk result (Extends self.old.choices.items self.new.choices.items) }
         ensures rows { (job : Job) → HasRowsBeside job self.old.choices.items self.old.rows.items
             → OnOk result (HasRowsBeside job self.new.choices.items self.new.rows.items) }
     {
@@ -176,16 +269,26 @@ impl Table {
     }
 
     // The range of a node's children, or None where it is a side split with other children.
-    fn range(&mut self, alloc: Global, job: &Job, node: &Node) -> Result<Option<Range>, NoMemory>
+    fn range(
+        &mut self,
+        alloc: Global,
+        job: &Job,
+        met: &mut BTreeMap<Contact, Met>,
+        node: &Node,
+    ) -> Result<Option<Range>, NoMemory>
+        requires met { AreMet job.now self.old.choices.items (values met.old) }
         ensures range { IfOk result (λ r. IfSome r (HasRange job.now self.new.choices.items node.now)) }
         ensures stuck { IfOk result (λ r. IfNone r (IsStuck job.now node.now)) }
-        ensures grown { OnOk result ((more : List Choice) × (self.new.choices.items ≡ self.old.choices.items ++ more)) }
+        ensures grown { OnOk result (Extends self.old.choices.items self.new.choices.items) }
         ensures rows { HasRowsBeside job.now self.old.choices.items self.old.rows.items
             → OnOk result (HasRowsBeside job.now self.new.choices.items self.new.rows.items) }
+        ensures met { OnOk result (AreMet job.now self.new.choices.items (values met.new)) }
     {
         match node {
             Node::Order { i, j } => Ok(Some(self.order_range(*i, *j)?)),
-            Node::Side { contact, children } => self.side_range(alloc, job, contact, *children),
+            Node::Side { contact, children } => self.side_range(
+                alloc, job, met, contact, *children,
+            ),
             _ => Ok(Some(Range { from: 0, to: 0 })),
         }
     }
@@ -196,8 +299,9 @@ impl Table {
             → OnOk result (HasRowsBeside job.now self.new.choices.items self.new.rows.items) }
     {
         let mut ranges = Vec::with_capacity(alloc, nodes.len())?;
+        let mut met = BTreeMap::new(alloc);
         for node in nodes {
-            let Some(range) = self.range(alloc, job, node)? else {
+            let Some(range) = self.range(alloc, job, &mut met, node)? else {
                 return Ok(ranges);
             };
             note(&mut ranges, range)?;

@@ -1,4 +1,5 @@
 use Rattle.std.proofs.Common.{sym, subst}
+use Rattle.cert_checker.proofs.Tables.{met_grown}
 use Rattle.cert_checker.specs.Kept.{HasRange}
 use Rattle.cert_checker.proofs.kept.Table.range.Goals as goal
 
@@ -8,3 +9,6 @@ returns-in_ok-order_range-in-Order-clause-range c =
 
 pub returns-in_ok-order_range-in-Order-clause-rows : goal.returns-in_ok-order_range-in-Order-clause-rows
 returns-in_ok-order_range-in-Order-clause-rows c = c.in_ok-order_range-in-Order.ensures.rows c.args.job.now
+
+pub returns-in_ok-order_range-in-Order-clause-met : goal.returns-in_ok-order_range-in-Order-clause-met
+returns-in_ok-order_range-in-Order-clause-met c = met_grown c.args.job.now _ _ _ c.in_ok-order_range-in-Order.ensures.grown c.requires.met
