@@ -19,9 +19,11 @@ use Rattle.row_dictionary.specs.Seen.{Seen, IsOf}
 use Rattle.row_dictionary.specs.Turning.{Turned}
 use Rattle.row_dictionary.specs.declared.turn.Turn.{Turn}
 use Rattle.row_dictionary.specs.declared.turn.Turn.TheVariants as Turns
-use Rattle.feasible_point.specs.Answering.{Answers, NeverWide, Solves}
+use Rattle.feasible_point.specs.Answering.{Answers, Solves, mults_of}
+use Rattle.feasible_point.specs.Shortening.{Shortened, IsTaking, IsShortest}
+use Rattle.feasible_point.specs.Laws.Shorter.{Certifies, certifies}
 use Rattle.feasible_point.specs.Walked.{Reached, Walks, GoesOn, Ended, nums_upto}
-use Rattle.feasible_point.specs.Walking.{table, steps_of, pivots_to, fewer, reached_next, reached_here, slacks_rise, walk_to, walk_wide, never_wide, stops_point, stops_none, nums, upto_is, meets}
+use Rattle.feasible_point.specs.Laws.Walking.{table, steps_of, pivots_to, fewer, reached_next, reached_here, slacks_rise, walk_to, walk_wide, never_wide, stops_point, stops_none, nums, upto_is, meets}
 use Rattle.feasible_point.specs.declared.Solved.{Solved}
 use Rattle.feasible_point.specs.declared.Solved.TheVariants as Solveds
 use Rattle.seq_model.specs.Dictionaries.{Rises}
@@ -91,6 +93,41 @@ walks_to rows start t h r turn e = walk_to t.vars rows start (rising (t.vars + l
 pub out_of : (rows : List Row) (t : Seen) → IsOf rows t → (turn : Turn) → Ended rows t turn → (out into row : ℕ) → turn ≡ Turns.Wide out into row → Contains t.basic out
 out_of rows t h turn e out into row s = Contains-from_in t.basic out (leaves_at t.vars rows t.d t.basic t.free t.lines h out (subst (λ (u : Turn). Turned rows t t u) s e.1).1).member
 
+contradicts_at : (rows : List Row) (t : Seen) → IsOf rows t → (out : ℕ) → Ended rows t (Turns.Contradiction out) → Contradiction rows (mults_of t out)
+contradicts_at rows t h out e = subst (λ n. Contradiction rows (mults t.vars (weight t.d out t.free (line_or out t.basic t.lines)) n)) (sym h.many) (contradicts t.vars rows t.d t.basic t.free t.lines h out at.member at.negative none)
+  where
+    at : LeavesAt t.basic t.lines out
+    at = leaves_at t.vars rows t.d t.basic t.free t.lines h out e.1.1
+
+    none : NoEntry t.free (line_or out t.basic t.lines)
+    none = none_enters t.vars rows t.d t.basic t.free t.lines h out at.member e.1.2
+
+certifies_of : (rows : List Row) (t : Seen) → IsOf rows t → (out : ℕ) → Ended rows t (Turns.Contradiction out) → (list : List Mult) → All IsTaking (mults_of t out) → Shortened (mults_of t out) list → Certifies rows t.vars list
+certifies_of rows t h out e list k s =
+    certifies rows t.vars (mults_of t out) list (contradicts_at rows t h out e)
+    (subst (λ n. Rises (length rows) (map (λ (m : Mult). m.row) (mults t.vars w n))) (sym h.many) (rising_mults t.vars w (length rows)))
+    k
+    (some_mults rows (mults_of t out) (contradicts_at rows t h out e))
+    (subst (λ n. length (mults t.vars w n) ≤ suc t.vars) (sym h.many) (few_mults t.vars rows t.d t.basic t.free t.lines h out at.member (line_or out t.basic t.lines)))
+    s
+  where
+    w : ℕ → ℤ
+    w = weight t.d out t.free (line_or out t.basic t.lines)
+
+    at : LeavesAt t.basic t.lines out
+    at = leaves_at t.vars rows t.d t.basic t.free t.lines h out e.1.1
+
+pub some_of : (rows : List Row) (t : Seen) → IsOf rows t → (turn : Turn) → Ended rows t turn → (out : ℕ) → turn ≡ Turns.Contradiction out → 0 < length (mults_of t out)
+some_of rows t h turn e out s = some_mults rows (mults_of t out) (contradicts_at rows t h out (subst (λ (u : Turn). Ended rows t u) s e))
+
+pub shortest : (rows : List Row) (t : Seen) → IsOf rows t → (turn : Turn) → Ended rows t turn → (solved : Solved) → Answers t turn solved → IsShortest solved
+shortest rows t h turn e (Solveds.Point den list) a = tt
+shortest rows t h turn e (Solveds.Wide basis row) a = tt
+shortest rows t h Turns.Point e (Solveds.Contradiction list) a = absurd a
+shortest rows t h (Turns.Contradiction out) e (Solveds.Contradiction list) a = (certifies_of rows t h out e list.items a.0 a.1).shortest
+shortest rows t h (Turns.Wide out into row) e (Solveds.Contradiction list) a = absurd a
+shortest rows t h (Turns.Next out into) e (Solveds.Contradiction list) a = absurd (e.0 tt)
+
 pub solves : (rows : List Row) (t : Seen) → IsOf rows t → Walks t.vars rows (slacks t.vars rows) (rising (t.vars + length rows) t.basic) → (turn : Turn) → Ended rows t turn → (solved : Solved) → Answers t turn solved → Solves t.vars rows solved
 solves rows t h r Turns.Point e (Solveds.Point den list) a = (
   subst (λ c. MeetsRows rows c list.items) (sym a.0) (subst (MeetsRows rows t.d) (sym (a.1 ∙ upto_is t.vars t.basic t.lines)) (meets t.vars rows t.d t.basic t.free t.lines h none)),
@@ -104,29 +141,16 @@ solves rows t h r Turns.Point e (Solveds.Contradiction list) a = absurd a
 solves rows t h r Turns.Point e (Solveds.Wide basis row) a = absurd a
 solves rows t h r (Turns.Contradiction out) e (Solveds.Point den list) a = absurd a
 solves rows t h r (Turns.Contradiction out) e (Solveds.Contradiction list) a =
-    subst (λ (ms : List Mult). Contradiction rows ms × Rises (length rows) (map (λ (m : Mult). m.row) ms) × All (λ (m : Mult). pos 1 ≤ℤ m.times) ms × (0 < length ms) × (length ms ≤ suc t.vars) × NeverWide t.vars rows) (sym is) (
-      both,
-      rising_mults t.vars w (length rows),
-      All-from_in (λ (m : Mult). pos 1 ≤ℤ m.times) (mults t.vars w (length rows)) (λ m i. let s = (taken_of t.vars w (length rows) m i).some in omega (arith, ints, s)),
-      some_mults rows (mults t.vars w (length rows)) both,
-      few_mults t.vars rows t.d t.basic t.free t.lines h out at.member (line_or out t.basic t.lines),
-      never_wide t.vars rows (slacks t.vars rows) (rising (t.vars + length rows) t.basic) r (stops_none t.vars rows t.d t.basic t.free t.lines h out at none),
-    )
+    (c.contradiction, c.rising, c.taken, c.some, c.few, never_wide t.vars rows (slacks t.vars rows) (rising (t.vars + length rows) t.basic) r (stops_none t.vars rows t.d t.basic t.free t.lines h out at none))
   where
-    w : ℕ → ℤ
-    w = weight t.d out t.free (line_or out t.basic t.lines)
-
-    is : list.items ≡ mults t.vars (weight t.d out t.free (line_or out t.basic t.lines)) (length rows)
-    is = a ∙ ap (mults t.vars (weight t.d out t.free (line_or out t.basic t.lines))) h.many
-
     at : LeavesAt t.basic t.lines out
     at = leaves_at t.vars rows t.d t.basic t.free t.lines h out e.1.1
 
     none : NoEntry t.free (line_or out t.basic t.lines)
     none = none_enters t.vars rows t.d t.basic t.free t.lines h out at.member e.1.2
 
-    both : Contradiction rows (mults t.vars (weight t.d out t.free (line_or out t.basic t.lines)) (length rows))
-    both = contradicts t.vars rows t.d t.basic t.free t.lines h out at.member at.negative none
+    c : Certifies rows t.vars list.items
+    c = certifies_of rows t h out e list.items a.0 a.1
 solves rows t h r (Turns.Contradiction out) e (Solveds.Wide basis row) a = absurd a
 solves rows t h r (Turns.Wide out into row) e (Solveds.Point den list) a = absurd a
 solves rows t h r (Turns.Wide out into row) e (Solveds.Contradiction list) a = absurd a
