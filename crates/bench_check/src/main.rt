@@ -5,7 +5,7 @@
 //! its own size. Nothing is promised here but that `check` may be called.
 #![tactic(auto)]
 
-ghost use Rattle.std.specs.Prelude.{◌≡◌, ◌≤◌, IfOk, IfSome, All, length, unsigned_abs};
+ghost use Rattle.std.specs.Prelude.{◌≡◌, ◌≤◌, ◌<◌, IfOk, IfSome, All, length, unsigned_abs};
 ghost use Rattle.seq_model.specs.Bounds.{IsNear, IsNearFacet};
 ghost use Rattle.seq_model.specs.Soundness.{IsSoundObject};
 
@@ -60,20 +60,26 @@ fn facet(corners: &((i8, i8), (i8, i8), (i8, i8)), size: u16, low: u32) -> Facet
     }
 }
 
-// Three facets in each of 20 bands of 10 mm; each band is a millimetre smaller.
+// One of three facets in each of 20 bands of 10 mm; each band is a millimetre smaller.
+fn nth_facet(k: u16) -> Facet
+    requires { k < 60 }
+    ensures { IsNearFacet result }
+{
+    let band = k / 3;
+    facet(
+        &FACETS[(k % 3) as usize],
+        30_000 - 1_000 * band,
+        1_000 + 10_000 * u32::from(band),
+    )
+}
+
 fn facets(alloc: Global) -> Result<Vec<Facet>, AllocError>
     ensures near { IfOk result (λ facets. All IsNearFacet facets.items) }
     ensures few { IfOk result (λ facets. length facets.items ≤ 200_000) }
 {
     let mut facets = Vec::new(alloc);
     for k in 0..60u16 {
-        let band = k / 3;
-        let corners = &FACETS[(k % 3) as usize];
-        facets.push(facet(
-            corners,
-            30_000 - 1_000 * band,
-            1_000 + 10_000 * u32::from(band),
-        ))?;
+        facets.push(nth_facet(k))?;
     }
     Ok(facets)
 }

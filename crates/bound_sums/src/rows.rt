@@ -71,7 +71,8 @@ fn add_push(sums: &mut [i128], push: &SideRow, mult: &Mult)
     requires line { IsShortSide (length sums.old) push.now }
     requires times { unsigned_abs mult.now.times < 2 ^ 62 }
     requires room { All (IsAtMost (2 ^ 99)) sums.old }
-    ensures added { AreAdded mult.now.times sums.old (side_entries (length sums.old) push.now.i push.now.j push.now.x push.now.y) sums.new }
+    ensures added { AreAdded mult.now.times sums.old
+        (side_entries (length sums.old) push.now.i push.now.j push.now.x push.now.y) sums.new }
     ensures len { length sums.new ≡ length sums.old }
     ensures size { (b : ℕ) → All (IsAtMost b) sums.old → All (IsAtMost (b + 2 ^ 86)) sums.new }
 {

@@ -61,9 +61,6 @@ counted_mults mults low s k d within =
 pub spelt_counted : (node : Node) (mults handed : List Mult) → node ≡ Nodes.Bound mults → handed ≡ mults → IsSpelt node → All IsCounted handed
 spelt_counted node mults handed is h s = let t = subst IsSpelt is s in subst (All IsCounted) (sym h) (counted_mults mults t.0.times t.1)
 
-pub spelt_few : (node : Node) (mults handed : List Mult) → node ≡ Nodes.Bound mults → handed ≡ mults → IsSpelt node → length handed ≤ 33
-spelt_few node mults handed is h s = let t = subst IsSpelt is s in omega (arith, t.0.few, length-map mults pair_of, ap length h)
-
 pub rule_of_node : (job : Job) (e : ℕ) (path : List Choice) (node same : Node) (o : Option Rule) → node ≡ same → IsOwnRule job e path same o → IsOwnRule job e path node o
 rule_of_node job e path node same o is h = subst (λ n. IsOwnRule job e path n o) (sym is) h
 

@@ -9,6 +9,8 @@
 --   Extends old new               the choices went on
 --   AreRanges job choices nodes ranges   the ranges are those of the first nodes: of all, or of all before one that is stuck
 --   HasRowsBeside job choices rows   beside each side of the choices stands its row
+--   IsTable job table             its choices have their rows
+--   Grows old new                 a table's choices went on
 --   AreRoomsOf job kept           the rooms are those that its extent leaves
 --   IsKept job nodes kept         they are, the choices have their rows, and the ranges are those of the nodes
 use Rattle.std.specs.Prelude.{◌≡◌, ℕ, ◌-◌, ◌<◌, ◌≤◌, List, [], ◌∷◌, ◌++◌, All, drop, length, map, take, slice_index_or, ◌⊎◌}
@@ -30,6 +32,7 @@ use Rattle.cert_checker.specs.Trails.{IsRowFor}
 use Rattle.cert_checker.specs.declared.kept.Kept.{Kept}
 use Rattle.cert_checker.specs.declared.kept.Met.{Met}
 use Rattle.cert_checker.specs.declared.kept.Range.{Range}
+use Rattle.cert_checker.specs.declared.kept.Table.{Table}
 
 abbrev pub node_at : List Node → ℕ → Node
 node_at nodes k = slice_index_or nodes k Nodes.Pending
@@ -77,11 +80,17 @@ pub record AreRanges (job : Job) (choices : List Choice) (nodes : List Node) (ra
 abbrev pub HasRowsBeside : Job → List Choice → List SideRow → Type 0
 HasRowsBeside job choices rows = AllZip (IsRowFor job) choices rows
 
+abbrev pub IsTable : Job → Table → Type 0
+IsTable job table = HasRowsBeside job table.choices.items table.rows.items
+
+abbrev pub Grows : Table → Table → Type 0
+Grows old new = Extends old.choices.items new.choices.items
+
 pub record AreRoomsOf (job : Job) (kept : Kept) : Type 0 where
   pub are : kept.rooms.items ≡ rooms_of job kept.extent job.objects
   pub short : All IsShortRoom kept.rooms.items
 
 pub record IsKept (job : Job) (nodes : List Node) (kept : Kept) : Type 0 where
   pub rooms : AreRoomsOf job kept
-  pub rows : HasRowsBeside job kept.table.choices.items kept.table.rows.items
+  pub rows : IsTable job kept.table
   pub ranges : AreRanges job kept.table.choices.items nodes kept.ranges.items

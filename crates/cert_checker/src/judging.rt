@@ -47,7 +47,8 @@ fn bound_rule(rooms: &[i64], rows: &[SideRow], mults: &[Mult], sums: &mut [i128]
     requires few { length mults.now ≤ 33 }
     requires counted { All IsCounted mults.now }
     requires sums { length sums.old ≡ length rooms.now }
-    ensures rule { (job : Job) (e : ℕ) (path : List Choice) → rooms.now ≡ rooms_of job e job.objects → AreRowsOf job path rows.now
+    ensures rule { (job : Job) (e : ℕ) (path : List Choice) → rooms.now ≡ rooms_of job e job.objects
+        → AreRowsOf job path rows.now
         → IsOwnRule job e path (Nodes.Bound mults.now) result }
     ensures sums { length sums.new ≡ length rooms.now }
 {
@@ -109,7 +110,8 @@ pub fn judge(
     requires rows { HasRows job.now trail.now }
     requires spelt { All IsSpelt nodes.now }
     requires sums { length sums.old ≡ length kept.now.rooms.items }
-    ensures judged { IsJudged job.now kept.now.extent kept.now.table.choices.items trail.now.path.items (node_at nodes.now number) result }
+    ensures judged { IsJudged job.now kept.now.extent kept.now.table.choices.items
+        trail.now.path.items (node_at nodes.now number) result }
     ensures due { IfFine result (number < length kept.now.ranges.items) }
     ensures sums { length sums.new ≡ length kept.now.rooms.items }
 {

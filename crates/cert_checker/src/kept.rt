@@ -8,7 +8,7 @@ ghost use Rattle.seq_model.specs.declared.job.Job.{Job};
 ghost use Rattle.seq_model.specs.declared.tree.Choice.{Choice};
 ghost use Rattle.seq_model.specs.declared.tree.Choice.TheVariants as Choices;
 ghost use Rattle.seq_model.specs.declared.tree.Node.TheVariants as Nodes;
-ghost use Rattle.cert_checker.specs.Kept.{AreMet, AreRanges, Extends, HasRange, HasSidesAt, HasRowsBeside, IsKept, IsStuck};
+ghost use Rattle.cert_checker.specs.Kept.{AreMet, AreRanges, Grows, HasRange, HasSidesAt, IsKept, IsStuck, IsTable};
 ghost use Rattle.cert_checker.specs.Trails.{IsRowFor, IsRowOf};
 
 use crate::contacts::exists;
@@ -91,7 +91,8 @@ fn is_same(a: &Contact, b: &Contact) -> bool
 
 // Where the sides of a contact stand, if it was met.
 fn known(met: &BTreeMap<Contact, Met>, contact: &Contact) -> Option<Range>
-    ensures { (job : Job) (choices : List Choice) → AreMet job choices (values met.now) → IfSome result (HasSidesAt job choices contact.now) }
+    ensures { (job : Job) (choices : List Choice) → AreMet job choices (values met.now)
+        → IfSome result (HasSidesAt job choices contact.now) }
 {
     let found = met.get(contact)?;
     if !is_same(&found.contact, contact) {
@@ -105,7 +106,8 @@ fn remember(
     contact: &Contact,
     range: &Range,
 ) -> Result<(), AllocError>
-    ensures { (job : Job) (choices : List Choice) → AreMet job choices (values met.old) → HasSidesAt job choices contact.now range.now
+    ensures { (job : Job) (choices : List Choice) → AreMet job choices (values met.old)
+        → HasSidesAt job choices contact.now range.now
         → OnOk result (AreMet job choices (values met.new)) }
 {
     met.insert(
@@ -128,7 +130,7 @@ fn note(ranges: &mut Vec<Range>, range: Range) -> Result<(), AllocError>
 impl Table {
     fn new(alloc: Global) -> Table
         ensures choices { result.choices.items ≡ [] }
-        ensures rows { (job : Job) → HasRowsBeside job result.choices.items result.rows.items }
+        ensures rows { (job : Job) → IsTable job result }
     {
         Table {
             choices: Vec::new(alloc),
@@ -138,8 +140,8 @@ impl Table {
 
     fn push(&mut self, choice: &Choice, row: &SideRow) -> Result<(), AllocError>
         ensures choices { OnOk result (self.new.choices.items ≡ self.old.choices.items ++ choice.now ∷ []) }
-        ensures rows { (job : Job) → HasRowsBeside job self.old.choices.items self.old.rows.items → IsRowFor job choice.now row.now
-            → OnOk result (HasRowsBeside job self.new.choices.items self.new.rows.items) }
+        ensures rows { (job : Job) → IsTable job self.old → IsRowFor job choice.now row.now
+            → OnOk result (IsTable job self.new) }
     {
         self.choices.push(*choice)?;
         self.rows.push(*row)?;
@@ -147,9 +149,9 @@ impl Table {
     }
 
     fn push_order(&mut self, i: u32, j: u32) -> Result<(), AllocError>
-        ensures choices { OnOk result (self.new.choices.items ≡ self.old.choices.items ++ (Choices.Before i j ∷ Choices.Before j i ∷ [])) }
-        ensures rows { (job : Job) → HasRowsBeside job self.old.choices.items self.old.rows.items
-            → OnOk result (HasRowsBeside job self.new.choices.items self.new.rows.items) }
+        ensures choices { OnOk result (self.new.choices.items
+            ≡ self.old.choices.items ++ (Choices.Before i j ∷ Choices.Before j i ∷ [])) }
+        ensures rows { (job : Job) → IsTable job self.old → OnOk result (IsTable job self.new) }
     {
         self.push(&Choice::Before { i, j }, &NO_ROW)?;
         self.push(&Choice::Before { i: j, j: i }, &NO_ROW)?;
@@ -159,9 +161,9 @@ impl Table {
     fn push_sides(&mut self, job: &Job, contact: &Contact, dirs: &[Dir]) -> Result<(), AllocError>
         requires contact { IsContact job.now contact.now }
         requires short { All IsShort dirs.now }
-        ensures choices { OnOk result (self.new.choices.items ≡ self.old.choices.items ++ map (Choices.Side contact.now) dirs.now) }
-        ensures rows { HasRowsBeside job.now self.old.choices.items self.old.rows.items
-            → OnOk result (HasRowsBeside job.now self.new.choices.items self.new.rows.items) }
+        ensures choices { OnOk result (self.new.choices.items
+            ≡ self.old.choices.items ++ map (Choices.Side contact.now) dirs.now) }
+        ensures rows { IsTable job.now self.old → OnOk result (IsTable job.now self.new) }
     {
         for dir in dirs {
             let row = row_of(job, contact, dir);
@@ -187,9 +189,8 @@ impl Table {
         requires met { AreMet job.now self.old.choices.items (values met.old) }
         ensures range { IfOk result (λ r. IfSome r (HasSidesAt job.now self.new.choices.items contact.now)) }
         ensures none { IfOk result (λ r. IfNone r (IsContact job.now contact.now → ⊥)) }
-        ensures grown { OnOk result (Extends self.old.choices.items self.new.choices.items) }
-        ensures rows { HasRowsBeside job.now self.old.choices.items self.old.rows.items
-            → OnOk result (HasRowsBeside job.now self.new.choices.items self.new.rows.items) }
+        ensures grown { OnOk result (Grows self.old self.new) }
+        ensures rows { IsTable job.now self.old → OnOk result (IsTable job.now self.new) }
         ensures met { OnOk result (AreMet job.now self.new.choices.items (values met.new)) }
     {
         if !exists(job, contact) {
@@ -217,9 +218,8 @@ impl Table {
         requires met { AreMet job.now self.old.choices.items (values met.old) }
         ensures range { IfOk result (λ r. IfSome r (HasSidesAt job.now self.new.choices.items contact.now)) }
         ensures none { IfOk result (λ r. IfNone r (IsContact job.now contact.now → ⊥)) }
-        ensures grown { OnOk result (Extends self.old.choices.items self.new.choices.items) }
-        ensures rows { HasRowsBeside job.now self.old.choices.items self.old.rows.items
-            → OnOk result (HasRowsBeside job.now self.new.choices.items self.new.rows.items) }
+        ensures grown { OnOk result (Grows self.old self.new) }
+        ensures rows { IsTable job.now self.old → OnOk result (IsTable job.now self.new) }
         ensures met { OnOk result (AreMet job.now self.new.choices.items (values met.new)) }
     {
         if let Some(range) = known(met, contact) {
@@ -238,11 +238,11 @@ impl Table {
         children: u32,
     ) -> Result<Option<Range>, NoMemory>
         requires met { AreMet job.now self.old.choices.items (values met.old) }
-        ensures range { IfOk result (λ r. IfSome r (HasRange job.now self.new.choices.items (Nodes.Side contact.now children))) }
+        ensures range { IfOk result (λ r. IfSome r
+            (HasRange job.now self.new.choices.items (Nodes.Side contact.now children))) }
         ensures stuck { IfOk result (λ r. IfNone r (IsStuck job.now (Nodes.Side contact.now children))) }
-        ensures grown { OnOk result (Extends self.old.choices.items self.new.choices.items) }
-        ensures rows { HasRowsBeside job.now self.old.choices.items self.old.rows.items
-            → OnOk result (HasRowsBeside job.now self.new.choices.items self.new.rows.items) }
+        ensures grown { OnOk result (Grows self.old self.new) }
+        ensures rows { IsTable job.now self.old → OnOk result (IsTable job.now self.new) }
         ensures met { OnOk result (AreMet job.now self.new.choices.items (values met.new)) }
     {
         let Some(range) = self.sides(alloc, job, met, contact)? else {
@@ -256,9 +256,8 @@ impl Table {
 
     fn order_range(&mut self, i: u32, j: u32) -> Result<Range, AllocError>
         ensures range { IfOk result (λ r. (job : Job) → HasRange job self.new.choices.items (Nodes.Order i j) r) }
-        ensures grown { OnOk result (Extends self.old.choices.items self.new.choices.items) }
-        ensures rows { (job : Job) → HasRowsBeside job self.old.choices.items self.old.rows.items
-            → OnOk result (HasRowsBeside job self.new.choices.items self.new.rows.items) }
+        ensures grown { OnOk result (Grows self.old self.new) }
+        ensures rows { (job : Job) → IsTable job self.old → OnOk result (IsTable job self.new) }
     {
         let from = self.choices.len();
         self.push_order(i, j)?;
@@ -279,9 +278,8 @@ impl Table {
         requires met { AreMet job.now self.old.choices.items (values met.old) }
         ensures range { IfOk result (λ r. IfSome r (HasRange job.now self.new.choices.items node.now)) }
         ensures stuck { IfOk result (λ r. IfNone r (IsStuck job.now node.now)) }
-        ensures grown { OnOk result (Extends self.old.choices.items self.new.choices.items) }
-        ensures rows { HasRowsBeside job.now self.old.choices.items self.old.rows.items
-            → OnOk result (HasRowsBeside job.now self.new.choices.items self.new.rows.items) }
+        ensures grown { OnOk result (Grows self.old self.new) }
+        ensures rows { IsTable job.now self.old → OnOk result (IsTable job.now self.new) }
         ensures met { OnOk result (AreMet job.now self.new.choices.items (values met.new)) }
     {
         match node {
@@ -295,8 +293,7 @@ impl Table {
 
     fn ranges(&mut self, alloc: Global, job: &Job, nodes: &[Node]) -> Result<Vec<Range>, NoMemory>
         ensures ranges { IfOk result (λ ranges. AreRanges job.now self.new.choices.items nodes.now ranges.items) }
-        ensures rows { HasRowsBeside job.now self.old.choices.items self.old.rows.items
-            → OnOk result (HasRowsBeside job.now self.new.choices.items self.new.rows.items) }
+        ensures rows { IsTable job.now self.old → OnOk result (IsTable job.now self.new) }
     {
         let mut ranges = Vec::with_capacity(alloc, nodes.len())?;
         let mut met = BTreeMap::new(alloc);

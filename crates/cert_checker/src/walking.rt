@@ -4,9 +4,9 @@ ghost use Rattle.std.specs.Vec.{vec_capacity};
 ghost use Rattle.cert_text.specs.TreeText.{IsSpelt};
 ghost use Rattle.seq_model.specs.declared.job.Job.{Job};
 ghost use Rattle.cert_checker.specs.Judged.{IsChecked};
-ghost use Rattle.cert_checker.specs.Kept.{HasRowsBeside, IsKept};
+ghost use Rattle.cert_checker.specs.Kept.{IsKept, IsTable};
 ghost use Rattle.cert_checker.specs.Trails.{HasRoom, HasRows, IsFit};
-ghost use Rattle.cert_checker.specs.Waits.{waiting, AreNested};
+ghost use Rattle.cert_checker.specs.Waits.{AreOpen, to_come};
 ghost use Rattle.cert_checker.specs.Wholes.{AreWhole};
 
 use crate::frames::{Frame, put};
@@ -18,17 +18,17 @@ use seq_model::{Job, Node};
 
 // Goes to the first path that is to come, if there is one.
 fn advance(table: &Table, trail: &mut Trail, frames: &mut Vec<Frame>) -> bool
-    requires nested { AreNested table.now.choices.items (length trail.old.path.items) (reverse frames.old.items) }
+    requires nested { AreOpen table.now trail.old frames.old.items }
     requires rows { length table.now.rows.items ≡ length table.now.choices.items }
     requires fit { IsFit trail.old }
     requires path_room { HasRoom trail.old (length trail.old.path.items + 1) }
     requires frame_room { length frames.old.items ≤ vec_capacity frames.old }
-    ensures waits { result ≡ true → waiting table.now.choices.items trail.old.path.items (reverse frames.old.items)
-        ≡ trail.new.path.items ∷ waiting table.now.choices.items trail.new.path.items (reverse frames.new.items) }
-    ensures nested { result ≡ true → AreNested table.now.choices.items (length trail.new.path.items) (reverse frames.new.items) }
-    ensures ended { result ≡ false → waiting table.now.choices.items trail.old.path.items (reverse frames.old.items) ≡ [] }
+    ensures waits { result ≡ true → to_come table.now trail.old frames.old.items
+        ≡ trail.new.path.items ∷ to_come table.now trail.new frames.new.items }
+    ensures nested { result ≡ true → AreOpen table.now trail.new frames.new.items }
+    ensures ended { result ≡ false → to_come table.now trail.old frames.old.items ≡ [] }
     ensures fit { IsFit trail.new }
-    ensures rows { (job : Job) → HasRowsBeside job table.now.choices.items table.now.rows.items → HasRows job trail.old → HasRows job trail.new }
+    ensures rows { (job : Job) → IsTable job table.now → HasRows job trail.old → HasRows job trail.new }
     ensures path_len { length trail.new.path.items ≤ length trail.old.path.items + 1 }
     ensures frames_len { length frames.new.items ≤ length frames.old.items }
     ensures room { (n : ℕ) → HasRoom trail.old n → HasRoom trail.new n }
@@ -56,7 +56,8 @@ fn advance(table: &Table, trail: &mut Trail, frames: &mut Vec<Frame>) -> bool
 // Opens a split at the end of the path, where the node has children.
 fn open(frames: &mut Vec<Frame>, depth: usize, next: usize, end: usize)
     requires { length frames.old.items < vec_capacity frames.old }
-    ensures some { next < end → frames.new.items ≡ frames.old.items ++ record { depth = depth; next = next; end = end } ∷ [] }
+    ensures some { next < end → frames.new.items
+        ≡ frames.old.items ++ record { depth = depth; next = next; end = end } ∷ [] }
     ensures none { end ≤ next → frames.new.items ≡ frames.old.items }
     ensures len { length frames.new.items ≤ length frames.old.items + 1 }
     ensures capacity { vec_capacity frames.old ≤ vec_capacity frames.new }
