@@ -155,13 +155,13 @@ decision_stated job budget (Decisions.Found plan) is =
     stated (placed States.Found job.printer.grid job.printer.grid plan) None (found_is_file job job.printer.grid plan States.Found refl is) refl
 decision_stated job budget (Decisions.Refuted tree) is =
     stated (bare States.NoPlan job.printer.grid) (Some (excludes job.printer.grid, tree)) (bare_is_file job States.NoPlan refl)
-    (refl, (excluding job job.printer.grid job.printer.ranged.grid_low (omega arith), is.printable))
+    (refl, excluding job job.printer.grid job.printer.ranged.grid_low (omega arith), is.printable)
 decision_stated job budget (Decisions.Spent tree) is =
     stated (bare States.UndecidedBudget job.printer.grid) (Some (tried job.printer.grid, tree)) (bare_is_file job States.UndecidedBudget refl)
-    (refl, (trying job job.printer.grid job.printer.ranged.grid_low (omega arith), is.printable))
+    (refl, trying job job.printer.grid job.printer.ranged.grid_low (omega arith), is.printable)
 decision_stated job budget (Decisions.Wide note tree) is =
     stated (bare States.UndecidedWide job.printer.grid) (Some (tried_wide job.printer.grid note, tree)) (bare_is_file job States.UndecidedWide refl)
-    (refl, (trying_wide job job.printer.grid note job.printer.ranged.grid_low (omega arith) is.spelt, is.printable))
+    (refl, trying_wide job job.printer.grid note job.printer.ranged.grid_low (omega arith) is.spelt, is.printable)
 
 pub outcome_stated : (job : Job) (budget : ℕ) (outcome : Outcome) → IsOutcome job budget outcome
     → IsTextOf (outcome_text job.printer.grid outcome) (statement_for job.printer.grid outcome)
@@ -169,13 +169,13 @@ outcome_stated job budget (Outcomes.Least plan e None) is =
     stated (placed States.Least job.printer.grid e plan) None (found_is_file job e plan States.Least refl is.found) (ap (nat_lt 1) is.below)
 outcome_stated job budget (Outcomes.Least plan e (Some tree)) is =
     stated (placed States.Least job.printer.grid e plan) (Some (excludes (e - 1), tree)) (found_is_file job e plan States.Least refl is.found)
-    (from_two e is.below.0, (excluding job (e - 1) (omega (arith, is.below.0)) (omega (arith, is.found.valid.to_grid)), is.below.1.printable))
+    (from_two e is.below.0, excluding job (e - 1) (omega (arith, is.below.0)) (omega (arith, is.found.valid.to_grid)), is.below.1.printable)
 outcome_stated job budget (Outcomes.NoPlan tree) is = decision_stated job budget (Decisions.Refuted tree) is
 outcome_stated job budget (Outcomes.Unproved plan e (Causes.Budget tree)) is =
     stated (placed States.OpenBudget job.printer.grid e plan) (Some (tried (e - 1), tree)) (found_is_file job e plan States.OpenBudget refl is.found)
-    (refl, (trying job (e - 1) (omega (arith, is.from_two)) (omega (arith, is.found.valid.to_grid)), is.below.printable))
+    (refl, trying job (e - 1) (omega (arith, is.from_two)) (omega (arith, is.found.valid.to_grid)), is.below.printable)
 outcome_stated job budget (Outcomes.Unproved plan e (Causes.Wide note tree)) is =
     stated (placed States.OpenWide job.printer.grid e plan) (Some (tried_wide (e - 1) note, tree)) (found_is_file job e plan States.OpenWide refl is.found)
-    (refl, (trying_wide job (e - 1) note (omega (arith, is.from_two)) (omega (arith, is.found.valid.to_grid)) is.below.spelt, is.below.printable))
+    (refl, trying_wide job (e - 1) note (omega (arith, is.from_two)) (omega (arith, is.found.valid.to_grid)) is.below.spelt, is.below.printable)
 outcome_stated job budget (Outcomes.Undecided (Causes.Budget tree)) is = decision_stated job budget (Decisions.Spent tree) is
 outcome_stated job budget (Outcomes.Undecided (Causes.Wide note tree)) is = decision_stated job budget (Decisions.Wide note tree) is
