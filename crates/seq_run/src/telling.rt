@@ -1,13 +1,13 @@
 ghost use Rattle.std.specs.Prelude.{◌≡◌, ◌⊎◌, OnOk, OnErr, IfOk, IfErr, MatchResult};
 ghost use Rattle.seq_io.specs.Taken.{BrokeIn, Wrote};
-ghost use Rattle.seq_run.specs.Messages.{line_of, read_line};
-ghost use Rattle.seq_run.specs.Stops.{IsToldAs};
-ghost use Rattle.seq_run.specs.declared.stop.Stop.{Stop};
+ghost use Rattle.run_lines.specs.Messages.{line_of, read_line};
+ghost use Rattle.run_files.specs.Stops.{IsToldAs};
+ghost use Rattle.run_files.specs.declared.stop.Stop.{Stop};
 
-use crate::messages::input_line;
-use crate::planning::Answer;
-use crate::words::name_in;
-use crate::{Asked, Cause, NamedFile, Stop};
+use crate::Verdict;
+use owned_lists::Items;
+use run_files::{Asked, Cause, NamedFile, Stop, name_in};
+use run_lines::input_line;
 use seq_io::{Sink, SinkFault, write_all};
 use std::alloc::Global;
 
@@ -73,6 +73,14 @@ pub fn tell<E: Sink>(alloc: Global, asked: &Asked, stop: Stop, err: &mut E) -> R
         Stop::Input(file, cause) => tell_input(alloc, asked, file, cause, err),
         Stop::Memory => send(err, b"memory\n", Stop::Memory),
     }
+}
+
+/// What a run answers where its files can be used: its verdict, and what goes to `err` and then to `out`.
+#[derive(Debug, Drop)]
+pub struct Answer {
+    pub verdict: Verdict,
+    pub notes: Items<u8>,
+    pub text: Items<u8>,
 }
 
 /// Writes an answer: its notes to `err`, then its text to `out`.
