@@ -22,8 +22,11 @@ object_of places k = (nth places k).object
 abbrev pub name_of : List Part → ℕ → List ℕ
 name_of parts k = (slice_index_or parts k no_part).name
 
-unfoldable pub off_line : ℕ → ℕ → List ℕ
-off_line k object = codes "audit offplate " ++ (spelling (pos k) ++ (codes " " ++ (spelling (pos object) ++ codes "\n")))
+unfoldable pub off_text : ℕ → List ℕ
+off_text k = codes "audit offplate " ++ spelling (pos k)
+
+abbrev pub off_line : ℕ → ℕ → List ℕ
+off_line k object = off_text k ++ number_line (codes " ") (pos object)
 
 unfoldable pub pair_text : ℕ → ℕ → List ℕ
 pair_text i j = codes "audit collides " ++ (spelling (pos i) ++ (codes " " ++ spelling (pos j)))

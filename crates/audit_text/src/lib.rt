@@ -5,7 +5,7 @@
 #![tactic(auto)]
 
 ghost use Rattle.std.specs.Prelude.{◌≡◌, ◌++◌, IfOk, OnOk};
-ghost use Rattle.audit_text.specs.AuditText.{audit_text, bands_text, hit_line, name_of, object_of, off_line, pair_text, part_text};
+ghost use Rattle.audit_text.specs.AuditText.{audit_text, bands_text, hit_line, name_of, object_of, off_line, off_text, pair_text, part_text};
 
 use plan_audit::{Hit, Verdict};
 use seq_model::{Part, Place};
@@ -31,14 +31,19 @@ fn name_of(parts: &[Part], number: u32) -> &str
     }
 }
 
+#[tactic(auto, unfolding(crate::specs::AuditText::off_text))]
+fn put_off_place(to: &mut Vec<u8>, place: u32) -> Result<(), AllocError>
+    ensures { OnOk result (to.new.items ≡ to.old.items ++ off_text place) }
+{
+    put_number(to, b"audit offplate ", i128::from(place))
+}
+
 // Appends the line of a place off the plate.
-#[tactic(auto, unfolding(crate::specs::AuditText::off_line))]
 fn put_off(to: &mut Vec<u8>, place: u32, object: u32) -> Result<(), AllocError>
     ensures { OnOk result (to.new.items ≡ to.old.items ++ off_line place object) }
 {
-    put_number(to, b"audit offplate ", i128::from(place))?;
-    put_number(to, b" ", i128::from(object))?;
-    to.extend_from_slice(b"\n")
+    put_off_place(to, place)?;
+    put_line(to, b" ", i128::from(object))
 }
 
 #[tactic(auto, unfolding(crate::specs::AuditText::pair_text))]
@@ -68,17 +73,16 @@ fn put_part(to: &mut Vec<u8>, part: u32, name: &str) -> Result<(), AllocError>
 }
 
 // Appends the line of a collision.
-fn put_hit(
-    to: &mut Vec<u8>,
-    parts: &[Part],
-    places: &[Place],
-    hit: Hit,
-) -> Result<(), AllocError>
+fn put_hit(to: &mut Vec<u8>, parts: &[Part], places: &[Place], hit: Hit) -> Result<(), AllocError>
     ensures { OnOk result (to.new.items ≡ to.old.items ++ hit_line
         (object_of places.now hit.earlier) (object_of places.now hit.later)
         hit.c hit.b hit.part (name_of parts.now hit.part)) }
 {
-    put_pair(to, object_of(places, hit.earlier), object_of(places, hit.later))?;
+    put_pair(
+        to,
+        object_of(places, hit.earlier),
+        object_of(places, hit.later),
+    )?;
     put_bands(to, hit.c, hit.b)?;
     put_part(to, hit.part, name_of(parts, hit.part))
 }

@@ -1,12 +1,11 @@
 -- What the loop over the meshes keeps, from the first file to the last.
-use Rattle.std.proofs.Common.{◌≡◌, ℕ, zero, suc, ◌+◌, ◌-◌, ◌<◌, ◌≤◌, ◌++◌, List, [], ◌∷◌, All, length, take, slice_get, Option, Some, None, IsSome, true, inl, inr, refl, sym, ap, subst, ◌∙◌, arith, append_assoc, append-nil}
+use Rattle.std.proofs.Common.{◌≡◌, ℕ, zero, suc, ◌+◌, ◌-◌, ◌<◌, ◌≤◌, ◌++◌, List, [], ◌∷◌, All, length, take, slice_get, Option, Some, None, IsSome, true, inr, refl, sym, ap, subst, ◌∙◌, arith, append_assoc, append-nil}
 use Rattle.std.proofs.lemmas.List.{take_all}
 use Rattle.std.proofs.lemmas.List.Elements.{All-nil, All-cons}
 use Rattle.std.specs.List.{AllZip}
 use Rattle.plan_text.specs.declared.file.PlanFile.{PlanFile}
 use Rattle.seq_io.specs.Counts.{raised}
 use Rattle.seq_io.specs.Views.{ShelfView}
-use Rattle.seq_io.specs.declared.mem_file.MemFile.{MemFile}
 use Rattle.seq_model.specs.Scenes.{Description}
 use Rattle.seq_model.specs.Soundness.{AreSoundObjects, IsSoundObject}
 use Rattle.seq_model.specs.declared.job.Job.{Job}
@@ -14,11 +13,11 @@ use Rattle.seq_model.specs.declared.job.Object.{Object}
 use Rattle.seq_model.specs.declared.mesh.Facet.{Facet}
 use Rattle.seq_model.specs.declared.printer.Printer.{Printer as Machine}
 use Rattle.run_files.specs.Causes.{AreUsableBefore, IsRefusedMesh, IsUnfit}
-use Rattle.run_files.specs.Files.{HasNamedPlan, IsMeshFile, IsPrinterFor, IsPrinterOf, IsUsableMesh, NamedMesh, mesh_of, name_in, name_or}
+use Rattle.run_files.specs.Files.{HasNamedPlan, IsMeshFile, IsPrinterFor, IsPrinterOf, IsUsableMesh, NamedMesh, name_in, name_or}
 use Rattle.run_files.specs.Jobs.{IsLoaded, IsObjectFor}
 use Rattle.run_files.specs.Loading.{IsFitted, Loading, NextPlan, last_before, last_of_head}
 use Rattle.run_files.specs.Notes.{AreNotesFor, AreNotesOf, IsMeshNote, IsNoteFor}
-use Rattle.run_files.specs.Stops.{Explains, IsDue, NextRead, ReadUpTo, WantsMemory, before_meshes, last_of, more, place_of, unfit_stop}
+use Rattle.run_files.specs.Stops.{Explains, IsDue, NextRead, ReadUpTo, WantsMemory, before_meshes, last_of, more, unfit_stop}
 use Rattle.run_files.specs.Words.{IsRequest, is_strict}
 use Rattle.run_files.specs.declared.stop.NamedFile.TheVariants.{Printer, Plan, Mesh}
 use Rattle.run_files.specs.declared.stop.Unfit.{Unfit}

@@ -1,25 +1,20 @@
 -- What comes of reading one file after another.
-use Rattle.std.proofs.Common.{◌≡◌, ℕ, ◌+◌, ◌-◌, ℤ, List, [], length, Option, None, true, inl, inr, refl, sym, ap, subst, ◌∙◌, arith}
+use Rattle.std.proofs.Common.{◌≡◌, ℕ, ℤ, List, Option, true, inl, inr, refl, ap, subst, ◌∙◌}
 use Rattle.seq_io.specs.Counts.{raised}
 use Rattle.seq_io.specs.Files.{LongerThan}
 use Rattle.seq_io.specs.Views.{ShelfView}
 use Rattle.seq_io.specs.declared.mem_file.MemFile.{MemFile}
 use Rattle.seq_io.specs.declared.shelf.ReadAll.{ReadAll}
 use Rattle.seq_io.specs.declared.shelf.ReadAll.TheVariants as Unread
-use Rattle.seq_model.specs.Scenes.{Description}
 use Rattle.seq_model.specs.declared.mesh.Facet.{Facet}
-use Rattle.seq_model.specs.declared.printer.Printer.{Printer as Machine}
-use Rattle.run_files.specs.Causes.{AreUsableBefore, IsRefusedMesh, IsUnfit, IsUnfitFor, Reaches, Refuses}
-use Rattle.run_files.specs.Files.{IsMeshFile, IsPrinterOf, limit_of, name_in}
-use Rattle.run_files.specs.Stops.{Explains, IsDue, IsToldAs, IsUnread, IsUntouched, NextRead, ReadUpTo, WantsMemory, before_meshes, last_of, more, stop_of, unfit_stop}
+use Rattle.run_files.specs.Causes.{IsRefusedMesh, IsUnfitFor, Reaches, Refuses}
+use Rattle.run_files.specs.Files.{IsMeshFile, limit_of, name_in}
+use Rattle.run_files.specs.Stops.{Explains, IsDue, IsUnread, IsUntouched, NextRead, ReadUpTo, WantsMemory, stop_of}
 use Rattle.run_files.specs.declared.stop.Cause.{Cause}
 use Rattle.run_files.specs.declared.stop.Cause.TheVariants as Causes
 use Rattle.run_files.specs.declared.stop.NamedFile.{NamedFile}
 use Rattle.run_files.specs.declared.stop.NamedFile.TheVariants.{Printer, Plan, Mesh}
-use Rattle.run_files.specs.declared.stop.Stop.{Stop}
-use Rattle.run_files.specs.declared.stop.Stop.TheVariants.{Read, Input, Memory}
-use Rattle.run_files.specs.declared.stop.Unfit.{Unfit}
-use Rattle.run_files.specs.declared.stop.Unfit.TheVariants.{Because, NoMemory}
+use Rattle.run_files.specs.declared.stop.Stop.TheVariants.{Memory}
 use Rattle.run_files.specs.declared.words.Asked.{Asked}
 use Rattle.run_files.specs.declared.words.Task.{Task}
 

@@ -28,7 +28,8 @@ fn stop_of(file: NamedFile, why: ReadAll) -> Stop
 /// The printer that the words name.
 pub fn load_printer<S: Shelf>(alloc: Global, asked: &Asked, shelf: &mut S) -> Result<Printer, Stop>
     ensures is { IfOk result (IsPrinterOf (S.shows shelf.old).files asked.now.printer) }
-    ensures read { OnOk result (NextRead asked.now.printer (S.shows shelf.old) (S.shows shelf.new)) }
+    ensures read { OnOk result (NextRead asked.now.printer
+        (S.shows shelf.old) (S.shows shelf.new)) }
     ensures why { IfErr result (Explains asked.now (S.shows shelf.old) (S.shows shelf.new)) }
     ensures files { (S.shows shelf.new).files ≡ (S.shows shelf.old).files }
 {
@@ -44,12 +45,9 @@ pub fn load_printer<S: Shelf>(alloc: Global, asked: &Asked, shelf: &mut S) -> Re
 }
 
 // The plan that a word names, where it is the next file in word order. Its tree block stays unread.
-fn load_named_plan<S: Shelf>(
-    alloc: Global,
-    asked: &Asked,
-    shelf: &mut S,
-) -> Result<PlanFile, Stop>
-    ensures is { IfOk result (StatesPlan (S.shows shelf.old).files (name_in asked.now NamedFile.Plan)) }
+fn load_named_plan<S: Shelf>(alloc: Global, asked: &Asked, shelf: &mut S) -> Result<PlanFile, Stop>
+    ensures is { IfOk result (StatesPlan
+        (S.shows shelf.old).files (name_in asked.now NamedFile.Plan)) }
     ensures read { OnOk result (NextRead (name_in asked.now NamedFile.Plan)
         (S.shows shelf.old) (S.shows shelf.new)) }
     ensures files { (S.shows shelf.new).files ≡ (S.shows shelf.old).files }

@@ -17,6 +17,7 @@ pub fn a_job_is_made_from_its_files()
 
 /// So the plans that are valid for it are those that are valid for the files.
 pub fn a_job_has_the_plans_of_its_files()
-    ensures { (d : Description) (meshes : List NamedMesh) (job : Job) → IsJobOf d meshes job → (e : ℕ) (plan : Plan)
+    ensures { (d : Description) (meshes : List NamedMesh) (job : Job) → IsJobOf d meshes job
+        → (e : ℕ) (plan : Plan)
         → Valid (scene_of_files d (facets_of meshes)) e plan ↔ Valid (scene_of_job job) e plan }
 {}

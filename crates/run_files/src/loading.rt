@@ -25,7 +25,8 @@ pub fn load<S: Shelf>(alloc: Global, asked: &Asked, shelf: &mut S) -> Result<Loa
     requires { IsRequest asked.now }
     ensures is { IfOk result (λ loaded. IsLoaded (S.shows shelf.old).files asked.now
         loaded.job loaded.plan loaded.notes) }
-    ensures read { OnOk result (ReadUpTo asked.now (last_of asked.now) (S.shows shelf.old) (S.shows shelf.new)) }
+    ensures read { OnOk result (ReadUpTo asked.now (last_of asked.now)
+        (S.shows shelf.old) (S.shows shelf.new)) }
     ensures reached { OnOk result (WantsMemory asked.now (S.shows shelf.old) (S.shows shelf.new)) }
     ensures why { IfErr result (Explains asked.now (S.shows shelf.old) (S.shows shelf.new)) }
 {

@@ -58,7 +58,8 @@ fn looked(alloc: Global, strict: bool, mesh: &Mesh) -> Result<Notes, Unfit>
 
 // What is noted of a mesh of this name.
 fn noted(alloc: Global, task: Task, name: &str, mesh: &Mesh) -> Result<Items<u8>, Unfit>
-    ensures note { IfOk result (IsNoteFor task (mesh_of name.now mesh.now.facets mesh.now.dropped)) }
+    ensures note { IfOk result (IsNoteFor task
+        (mesh_of name.now mesh.now.facets mesh.now.dropped)) }
     ensures passes { IfOk result (λ note. PassesStrict (is_strict task) mesh.now.facets) }
     ensures why { IfErr result (IsUnlooked (is_strict task) mesh.now.facets) }
 {
@@ -162,11 +163,13 @@ fn load_next<S: Shelf>(
 ) -> Result<(), Stop>
     requires { number < length asked.now.meshes }
     ensures next { (s : ShelfView) (plan : Option PlanFile)
-        → Loading asked.now printer.now plan number s (S.shows shelf.old) found.old.objects found.old.notes.items
+        → Loading asked.now printer.now plan number s
+        (S.shows shelf.old) found.old.objects found.old.notes.items
         → OnOk result (Loading asked.now printer.now plan (number + 1) s (S.shows shelf.new)
-            found.new.objects found.new.notes.items) }
+        found.new.objects found.new.notes.items) }
     ensures why { (s : ShelfView) (plan : Option PlanFile)
-        → Loading asked.now printer.now plan number s (S.shows shelf.old) found.old.objects found.old.notes.items
+        → Loading asked.now printer.now plan number s
+        (S.shows shelf.old) found.old.objects found.old.notes.items
         → IfErr result (Explains asked.now s (S.shows shelf.new)) }
 {
     let fitted = fit_file(alloc, asked, number, printer, shelf)?;
@@ -186,7 +189,7 @@ pub fn load_meshes<S: Shelf>(
     ensures all { (s : ShelfView) (plan : Option PlanFile)
         → Loading asked.now printer.now plan 0 s (S.shows shelf.old) [] []
         → IfOk result (λ found. Loading asked.now printer.now plan (length asked.now.meshes)
-            s (S.shows shelf.new) found.objects found.notes.items) }
+        s (S.shows shelf.new) found.objects found.notes.items) }
     ensures why { (s : ShelfView) (plan : Option PlanFile)
         → Loading asked.now printer.now plan 0 s (S.shows shelf.old) [] []
         → IfErr result (Explains asked.now s (S.shows shelf.new)) }

@@ -26,10 +26,13 @@ pub fn read_file<S: Shelf>(
     file: NamedFile,
     shelf: &mut S,
 ) -> Result<Vec<u8>, ReadAll>
-    ensures bytes { IfOk result (λ v. GivesFile (S.shows shelf.old).files (name_in asked.now file) v.items) }
+    ensures bytes { IfOk result (λ v. GivesFile
+        (S.shows shelf.old).files (name_in asked.now file) v.items) }
     ensures short { IfOk result (λ v. length v.items ≤ limit_of file) }
-    ensures read { OnOk result (NextRead (name_in asked.now file) (S.shows shelf.old) (S.shows shelf.new)) }
-    ensures why { IfErr result (IsUnread (limit_of file) (name_in asked.now file) (S.shows shelf.old) (S.shows shelf.new)) }
+    ensures read { OnOk result (NextRead (name_in asked.now file)
+        (S.shows shelf.old) (S.shows shelf.new)) }
+    ensures why { IfErr result (IsUnread (limit_of file) (name_in asked.now file)
+        (S.shows shelf.old) (S.shows shelf.new)) }
     ensures files { (S.shows shelf.new).files ≡ (S.shows shelf.old).files }
 {
     let Ok(own_name) = String::from_str(alloc, name_in(asked, file)) else {

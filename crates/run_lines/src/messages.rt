@@ -45,7 +45,9 @@ fn put_decimal(to: &mut Vec<u8>, cause: Decimal) -> Result<(), AllocError>
 
 // Appends a keyword that was expected at a place.
 fn put_expected(to: &mut Vec<u8>, keyword: &str, place: u64) -> Result<(), AllocError>
-    ensures { OnOk result (to.new.items ≡ to.old.items ++ (codes "expected " ++ (keyword.now ++ (codes " at " ++ spelling (pos place))))) }
+    ensures { OnOk result (to.new.items
+        ≡ to.old.items ++ (codes "expected " ++ (keyword.now ++ (codes " at "
+        ++ spelling (pos place))))) }
 {
     to.extend_from_slice(b"expected ")?;
     to.extend_from_slice(keyword.as_bytes())?;
@@ -54,7 +56,9 @@ fn put_expected(to: &mut Vec<u8>, keyword: &str, place: u64) -> Result<(), Alloc
 
 // Appends the place of a word that is no length, and why.
 fn put_bad_number(to: &mut Vec<u8>, place: u64, cause: Decimal) -> Result<(), AllocError>
-    ensures { OnOk result (to.new.items ≡ to.old.items ++ (codes "number at " ++ (spelling (pos place) ++ (codes ": " ++ decimal_text cause)))) }
+    ensures { OnOk result (to.new.items
+        ≡ to.old.items ++ (codes "number at " ++ (spelling (pos place) ++ (codes ": "
+        ++ decimal_text cause)))) }
 {
     put_number(to, b"number at ", i128::from(place))?;
     to.extend_from_slice(b": ")?;
@@ -157,7 +161,9 @@ fn put_prn(to: &mut Vec<u8>, e: &Prn) -> Result<(), AllocError>
 
 // Appends why a strict run refuses a mesh.
 fn put_not_closed(to: &mut Vec<u8>, open_edges: u64, six_volume: i128) -> Result<(), AllocError>
-    ensures { OnOk result (to.new.items ≡ to.old.items ++ (codes "not a closed outward mesh: " ++ looks_text open_edges six_volume)) }
+    ensures { OnOk result (to.new.items
+        ≡ to.old.items ++ (codes "not a closed outward mesh: "
+        ++ looks_text open_edges six_volume)) }
 {
     to.extend_from_slice(b"not a closed outward mesh: ")?;
     put_looks(to, open_edges, six_volume)

@@ -99,7 +99,7 @@ long R (a ∷ xs) (b ∷ ys) z = ap suc (long R xs ys z.1)
 plan_for : (files : Option (List MemFile)) (task : Task) (named : Option (List ℕ)) (plan : Option PlanFile) → NamesPlan task named → HasNamedPlan files named plan → HasPlanFor task plan
 plan_for files (Tasks.Arrange strict) named plan n h = tt
 plan_for files Tasks.Slices named plan n h = tt
-plan_for files Tasks.Audit None plan n h = absurd n
+plan_for files Tasks.Audit None plan n h = absurd (cc n)
 plan_for files Tasks.Audit (Some name) None n h = absurd h
 plan_for files Tasks.Audit (Some name) (Some plan) n h = h.is.spelled
 

@@ -1,14 +1,14 @@
 -- Scenes that agree have the same first fault of a plan; and what an audit asks of a plan that was read.
-use Rattle.std.proofs.Common.{◌≡◌, ℕ, zero, suc, ◌<◌, ◌≤◌, ◌^◌, ℤ, pos, ◌≤ℤ◌, ◌<ℤ◌, ◌⊎◌, inl, inr, unsigned_abs, List, [], ◌∷◌, length, get_or, All, Contains, Bool, true, false, Option, Some, None, refl, sym, ap, ◌∙◌, subst, arith}
+use Rattle.std.proofs.Common.{◌≡◌, ℕ, zero, suc, ◌+◌, ◌<◌, ◌≤◌, ◌^◌, ℤ, pos, ◌≤ℤ◌, ◌<ℤ◌, ◌⊎◌, inl, inr, unsigned_abs, List, [], ◌∷◌, length, get_or, All, Contains, Bool, true, false, Option, Some, None, refl, sym, ap, ◌∙◌, subst, arith}
 use Rattle.std.proofs.lemmas.Bool.{cases_lt}
 use Rattle.std.proofs.lemmas.Int.{ints, by_lt_z}
 use Rattle.std.proofs.lemmas.List.Elements.{All-nil, All-cons}
 use Rattle.std.specs.List.{AllZip}
-use Rattle.std.specs.Prelude.{slice_index_or}
+use Rattle.std.specs.Prelude.{MatchOption, slice_index_or}
 use Rattle.integer_laws.specs.Members.{In}
 use Rattle.integer_laws.specs.Laws.Members.{All-from_in, All-in, Contains-from_in, In-from_contains}
 use Rattle.mesh_slices.specs.Agreement.{Agree, SameOutline, SamePart}
-use Rattle.mesh_slices.specs.Laws.Agreeing.{agree_back, lies_in_back, meets_back, overlap_back, same_region, valid_back}
+use Rattle.mesh_slices.specs.Laws.Agreeing.{agree_back, lies_in_back, overlap_back, same_region, valid_back}
 use Rattle.plan_audit.specs.Faults.{FirstAbsent, FirstHit, FirstOff, FirstStray, HasSpotOff, IsAbsent, IsHit, IsOff, IsStray, IsVerdict, ComesBefore, nth, part_of}
 use Rattle.plan_audit.specs.Firsts.{IsFirst, Less}
 use Rattle.plan_audit.specs.Places.{IsRoomy}
@@ -21,7 +21,7 @@ use Rattle.seq_model.specs.Jobs.{no_part}
 use Rattle.seq_model.specs.Outlines.{Within}
 use Rattle.seq_model.specs.Plates.{region_of}
 use Rattle.seq_model.specs.Points.{at_spot, place_point}
-use Rattle.seq_model.specs.Scenes.{LiesIn, Scene, SomeSpot, Valid}
+use Rattle.seq_model.specs.Scenes.{LiesIn, Meets, Scene}
 use Rattle.seq_model.specs.declared.plan.Place.{Place}
 use Rattle.seq_model.specs.declared.plan.Plan.{Plan}
 use Rattle.seq_model.specs.declared.plate.Region.{Region}
@@ -103,6 +103,12 @@ as_many [] (q ∷ qs) z = absurd z
 as_many (p ∷ ps) [] z = absurd z
 as_many (p ∷ ps) (q ∷ qs) z = ap suc (as_many ps qs z.1)
 
+meets_back : (p q : Part) (b c : ℕ) → SamePart p q → Meets q b c → Meets p b c
+meets_back p q b c s m = record {
+  from_low = subst (λ l. b + l ≤ c) (sym s.lo) m.from_low;
+  to_high = subst (λ h. MatchOption h (Unit {0}) (λ hi. c ≤ b + hi)) (sym s.hi) m.to_high;
+}
+
 -- a hit of the second scene is one of the first
 hit_back : (s t : Scene) → Agree s t → (scale : ℤ) (places : List Place) → ((k : ℕ) → k < length places → (nth places k).object < s.objects) → (h : Hit) → IsHit t scale places h → IsHit s scale places h
 hit_back s t a scale places known h x =
@@ -120,7 +126,7 @@ hit_back s t a scale places known h x =
       band_of_later = b_in;
       band_of_earlier = c_in;
       part_of_scene = part;
-      meets = meets_back h.b h.c same x.meets;
+      meets = meets_back (part_of s h.part) (part_of t h.part) h.b h.c same x.meets;
       overlap = overlap_back (place_point scale (nth places h.earlier)) (place_point scale (nth places h.later)) (a.outlines i h.c known_i c_in) (a.outlines j h.b known_j b_in) same.outline x.overlap;
     }
   where

@@ -35,8 +35,10 @@ fn send_read<E: Sink>(err: &mut E, name: &str) -> Result<(), SinkFault>
 
 fn tell_read<E: Sink>(asked: &Asked, file: NamedFile, err: &mut E) -> Result<Stop, Stop>
     ensures told { MatchResult result (IsToldAs (Stop.Read file)) (IsToldAs (Stop.Read file)) }
-    ensures line { IfOk result (λ told. Wrote (line_of asked.now told) (E.shows err.old) (E.shows err.new)) }
-    ensures part { IfErr result (λ told. BrokeIn (line_of asked.now told) (E.shows err.old) (E.shows err.new)) }
+    ensures line { IfOk result (λ told. Wrote (line_of asked.now told)
+        (E.shows err.old) (E.shows err.new)) }
+    ensures part { IfErr result (λ told. BrokeIn (line_of asked.now told)
+        (E.shows err.old) (E.shows err.new)) }
 {
     match send_read(err, name_in(asked, file)) {
         Ok(()) => Ok(Stop::Read(file)),
@@ -51,9 +53,12 @@ fn tell_input<E: Sink>(
     cause: Cause,
     err: &mut E,
 ) -> Result<Stop, Stop>
-    ensures told { MatchResult result (IsToldAs (Stop.Input file cause)) (IsToldAs (Stop.Input file cause)) }
-    ensures line { IfOk result (λ told. Wrote (line_of asked.now told) (E.shows err.old) (E.shows err.new)) }
-    ensures part { IfErr result (λ told. BrokeIn (line_of asked.now told) (E.shows err.old) (E.shows err.new)) }
+    ensures told { MatchResult result (IsToldAs (Stop.Input file cause)) (IsToldAs
+        (Stop.Input file cause)) }
+    ensures line { IfOk result (λ told. Wrote (line_of asked.now told)
+        (E.shows err.old) (E.shows err.new)) }
+    ensures part { IfErr result (λ told. BrokeIn (line_of asked.now told)
+        (E.shows err.old) (E.shows err.new)) }
 {
     match input_line(alloc, name_in(asked, file), file, &cause) {
         Ok(line) => send(err, &line, Stop::Input(file, cause)),
@@ -65,8 +70,10 @@ fn tell_input<E: Sink>(
 /// memory is told in its place, which takes none.
 pub fn tell<E: Sink>(alloc: Global, asked: &Asked, stop: Stop, err: &mut E) -> Result<Stop, Stop>
     ensures told { MatchResult result (IsToldAs stop) (IsToldAs stop) }
-    ensures line { IfOk result (λ told. Wrote (line_of asked.now told) (E.shows err.old) (E.shows err.new)) }
-    ensures part { IfErr result (λ told. BrokeIn (line_of asked.now told) (E.shows err.old) (E.shows err.new)) }
+    ensures line { IfOk result (λ told. Wrote (line_of asked.now told)
+        (E.shows err.old) (E.shows err.new)) }
+    ensures part { IfErr result (λ told. BrokeIn (line_of asked.now told)
+        (E.shows err.old) (E.shows err.new)) }
 {
     match stop {
         Stop::Read(file) => tell_read(asked, file, err),
@@ -88,7 +95,8 @@ pub fn deliver<O: Sink, E: Sink>(answer: &Answer, out: &mut O, err: &mut E) -> R
     ensures notes { OnOk result (Wrote answer.now.notes (E.shows err.old) (E.shows err.new)) }
     ensures text { OnOk result (Wrote answer.now.text (O.shows out.old) (O.shows out.new)) }
     ensures broke { OnErr result (
-        (BrokeIn answer.now.notes (E.shows err.old) (E.shows err.new) × (O.shows out.new ≡ O.shows out.old))
+        (BrokeIn answer.now.notes (E.shows err.old) (E.shows err.new) × (O.shows out.new
+            ≡ O.shows out.old))
         ⊎ (Wrote answer.now.notes (E.shows err.old) (E.shows err.new)
         × BrokeIn answer.now.text (O.shows out.old) (O.shows out.new))) }
 {

@@ -40,7 +40,8 @@ fn work<S: Shelf>(alloc: Global, asked: &Asked, shelf: &mut S) -> Result<Answer,
     requires { IsRequest asked.now }
     ensures answers { IfOk result (λ answer. Answers (S.shows shelf.old).files asked.now
         answer.verdict answer.notes answer.text) }
-    ensures read { OnOk result (ReadUpTo asked.now (last_of asked.now) (S.shows shelf.old) (S.shows shelf.new)) }
+    ensures read { OnOk result (ReadUpTo asked.now (last_of asked.now)
+        (S.shows shelf.old) (S.shows shelf.new)) }
     ensures why { IfErr result (Explains asked.now (S.shows shelf.old) (S.shows shelf.new)) }
 {
     let loaded = load(alloc, asked, shelf)?;
@@ -116,27 +117,33 @@ pub fn run<S: Shelf, O: Sink, E: Sink>(
 ) -> u8
     ensures statuses { IsOneOf (0 ∷ 1 ∷ 2 ∷ 3 ∷ 4 ∷ 7 ∷ 8 ∷ 9 ∷ []) result }
 
-    // 0: `err` took the notes, and then `out` the whole text of a plan that is valid on the plate, or of the object's bands; or that
-    // the plan that was given is valid.
+    // 0: `err` took the notes, and then `out` the whole text of a plan that is valid on the plate, of the object's bands, or
+    // that the plan that was given is valid.
     ensures found { result ≡ 0 → Asks (texts words.now.items) (λ a. IsAnswered Verdict.Done a
-        (S.shows shelf.old) (S.shows shelf.new) (E.shows err.old) (E.shows err.new) (O.shows out.old) (O.shows out.new)) }
+        (S.shows shelf.old) (S.shows shelf.new)
+        (E.shows err.old) (E.shows err.new) (O.shows out.old) (O.shows out.new)) }
 
     // 1: exactly where no plan is valid; `err` took the notes, and then `out` the text that says so, with a certificate.
     ensures none { result ≡ 1 → Asks (texts words.now.items) (λ a. IsAnswered Verdict.NoPlan a
-        (S.shows shelf.old) (S.shows shelf.new) (E.shows err.old) (E.shows err.new) (O.shows out.old) (O.shows out.new)) }
+        (S.shows shelf.old) (S.shows shelf.new)
+        (E.shows err.old) (E.shows err.new) (O.shows out.old) (O.shows out.new)) }
     ensures none_always { (files : List MemFile) → (S.shows shelf.old).files ≡ Some files
-        → Asks (texts words.now.items) (HasNoPlan (Some files)) → IsOneOf (1 ∷ 3 ∷ 8 ∷ 9 ∷ []) result }
+        → Asks (texts words.now.items) (HasNoPlan (Some files))
+        → IsOneOf (1 ∷ 3 ∷ 8 ∷ 9 ∷ []) result }
 
     // 7: exactly where the plan that is to be audited isn't valid; `out` took its first fault.
     ensures fault { result ≡ 7 → Asks (texts words.now.items) (λ a. IsAnswered Verdict.Fault a
-        (S.shows shelf.old) (S.shows shelf.new) (E.shows err.old) (E.shows err.new) (O.shows out.old) (O.shows out.new)) }
+        (S.shows shelf.old) (S.shows shelf.new)
+        (E.shows err.old) (E.shows err.new) (O.shows out.old) (O.shows out.new)) }
     ensures fault_always { (files : List MemFile) → (S.shows shelf.old).files ≡ Some files
-        → Asks (texts words.now.items) (HasFault (Some files)) → IsOneOf (3 ∷ 7 ∷ 8 ∷ 9 ∷ []) result }
+        → Asks (texts words.now.items) (HasFault (Some files))
+        → IsOneOf (3 ∷ 7 ∷ 8 ∷ 9 ∷ []) result }
 
     // 2: exactly where the words are refused, or what they ask for isn't built; no file is started.
     ensures words { result ≡ 2 → IsMisworded (texts words.now.items)
         (S.shows shelf.old) (S.shows shelf.new) (E.shows err.old) (E.shows err.new) }
-    ensures words_always { IsErr (requested (texts words.now.items)) → IsOneOf (2 ∷ 8 ∷ 9 ∷ []) result }
+    ensures words_always { IsErr (requested (texts words.now.items))
+        → IsOneOf (2 ∷ 8 ∷ 9 ∷ []) result }
 
     // 3: only where the shelf failed at a file that the words name, once those before it were found usable.
     ensures read { result ≡ 3 → Asks (texts words.now.items) (λ a. IsUnreadFile a
@@ -147,21 +154,26 @@ pub fn run<S: Shelf, O: Sink, E: Sink>(
         (S.shows shelf.old) (S.shows shelf.new) (E.shows err.old) (E.shows err.new)) }
     ensures input_always { (Asks (texts words.now.items) (IsUsable (S.shows shelf.old).files) → ⊥)
         → IsOneOf (2 ∷ 3 ∷ 4 ∷ 8 ∷ 9 ∷ []) result }
-    ensures input_only { (files : List MemFile) → (S.shows shelf.old).files ≡ Some files → result ≡ 4
+    ensures input_only { (files : List MemFile) → (S.shows shelf.old).files ≡ Some files
+        → result ≡ 4
         → Asks (texts words.now.items) (IsUsable (Some files)) → ⊥ }
 
     // 8: exactly where a sink failed, within its text; `out` is written after `err`.
     ensures write { result ≡ 8 → IsUnwritten (texts words.now.items)
-        (S.shows shelf.old) (S.shows shelf.new) (E.shows err.old) (E.shows err.new) (O.shows out.old) (O.shows out.new) }
-    ensures err_calm { IsOneOf (0 ∷ 1 ∷ 2 ∷ 3 ∷ 4 ∷ 7 ∷ 9 ∷ []) result → (E.shows err.new).faults ≡ (E.shows err.old).faults }
-    ensures out_calm { IsOneOf (0 ∷ 1 ∷ 2 ∷ 3 ∷ 4 ∷ 7 ∷ 9 ∷ []) result → (O.shows out.new).faults ≡ (O.shows out.old).faults }
+        (S.shows shelf.old) (S.shows shelf.new)
+        (E.shows err.old) (E.shows err.new) (O.shows out.old) (O.shows out.new) }
+    ensures err_calm { IsOneOf (0 ∷ 1 ∷ 2 ∷ 3 ∷ 4 ∷ 7 ∷ 9 ∷ []) result
+        → (E.shows err.new).faults ≡ (E.shows err.old).faults }
+    ensures out_calm { IsOneOf (0 ∷ 1 ∷ 2 ∷ 3 ∷ 4 ∷ 7 ∷ 9 ∷ []) result
+        → (O.shows out.new).faults ≡ (O.shows out.old).faults }
 
     // 9: want of memory.
     ensures memory { result ≡ 9 → IsWanting (texts words.now.items)
         (S.shows shelf.old) (S.shows shelf.new) (E.shows err.old) (E.shows err.new) }
 
     ensures silent { IsOneOf (2 ∷ 3 ∷ 4 ∷ 9 ∷ []) result → O.shows out.new ≡ O.shows out.old }
-    ensures calm { IsOneOf (0 ∷ 1 ∷ 2 ∷ 4 ∷ 7 ∷ 9 ∷ []) result → (S.shows shelf.new).faults ≡ (S.shows shelf.old).faults }
+    ensures calm { IsOneOf (0 ∷ 1 ∷ 2 ∷ 4 ∷ 7 ∷ 9 ∷ []) result
+        → (S.shows shelf.new).faults ≡ (S.shows shelf.old).faults }
 {
     code_of(end(alloc, words, shelf, out, err))
 }

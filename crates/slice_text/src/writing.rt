@@ -52,7 +52,8 @@ fn put_zone_line(to: &mut Vec<u8>, zone: &Zone) -> Result<(), AllocError>
 }
 
 fn put_zone(to: &mut Vec<u8>, zone: &Zone) -> Result<(), AllocError>
-    ensures { OnOk result (to.new.items ≡ to.old.items ++ (zone_line zone.now ++ corners_text zone.now.corners)) }
+    ensures { OnOk result (to.new.items
+        ≡ to.old.items ++ (zone_line zone.now ++ corners_text zone.now.corners)) }
 {
     put_zone_line(to, zone)?;
     put_corners(to, zone.corners.as_slice())

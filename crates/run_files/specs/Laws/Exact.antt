@@ -21,7 +21,7 @@ use Rattle.seq_model.specs.declared.mesh.Facet.{Facet}
 use Rattle.std.specs.List.{AllZip}
 use Rattle.stl_text.specs.Laws.Meshes.{one_mesh, refused_no_mesh}
 use Rattle.stl_text.specs.Meshes.{MeshOf}
-use Rattle.run_files.specs.Causes.{IsNoPlan, IsPlanRefused, IsRefusedMesh, IsRefusedPlan, IsUnfitFile, Refuses}
+use Rattle.run_files.specs.Causes.{IsRefusedMesh, IsRefusedPlan, IsUnfitFile, Refuses}
 use Rattle.run_files.specs.Files.{AreUsable, HasNamedPlan, Inputs, IsMeshFile, IsPrinterFile, IsUsableMesh, NamedMesh, StatesPlan, facets_of, mesh_limit, name_or, plan_limit, printer_limit}
 use Rattle.run_files.specs.Words.{is_strict}
 use Rattle.run_files.specs.declared.stop.Cause.{Cause}

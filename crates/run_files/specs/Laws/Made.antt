@@ -4,18 +4,18 @@
 --   zones_same      objects have the zones of their meshes
 --   made_from       the job of a description and its meshes is made from them
 --   same_plans      and has the valid plans of the files
-use Rattle.std.proofs.Common.{◌≡◌, ℕ, List, [], ◌∷◌, All, Contains, sym, subst}
+use Rattle.std.proofs.Common.{ℕ, List, [], ◌∷◌, Contains, sym, subst}
 use Rattle.std.specs.Prelude.{◌↔◌}
 use Rattle.std.specs.List.{AllZip}
 use Rattle.integer_laws.specs.Laws.Members.{All-in, All-from_in, In-from_contains}
-use Rattle.mesh_slices.specs.Agreement.{HasZonesOf, IsMadeFrom, SameOutline, SamePart}
+use Rattle.mesh_slices.specs.Agreement.{HasZonesOf, IsMadeFrom, SamePart}
 use Rattle.mesh_slices.specs.Laws.AgreeingJobs.{same_plans_of_job, zones_of}
 use Rattle.outline_laws.specs.Laws.Means.{member_within}
 use Rattle.printer_text.specs.Printers.{AreKept, IsKept}
 use Rattle.seq_model.specs.Jobs.{scene_of_job}
 use Rattle.seq_model.specs.Outlines.{Within}
 use Rattle.seq_model.specs.Points.{at_spot}
-use Rattle.seq_model.specs.Scenes.{Description, Valid, description_of, scene_of_files}
+use Rattle.seq_model.specs.Scenes.{Description, Valid, scene_of_files}
 use Rattle.seq_model.specs.declared.job.Job.{Job}
 use Rattle.seq_model.specs.declared.job.Object.{Object}
 use Rattle.seq_model.specs.declared.plan.Plan.{Plan}

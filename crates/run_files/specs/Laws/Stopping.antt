@@ -1,5 +1,5 @@
 -- What is told of a stop explains the run as the stop does.
-use Rattle.std.proofs.Common.{◌≡◌, Option, List, inl, inr, sym, subst}
+use Rattle.std.proofs.Common.{Option, List, inl, inr, sym, subst}
 use Rattle.seq_io.specs.Views.{ShelfView}
 use Rattle.seq_io.specs.declared.mem_file.MemFile.{MemFile}
 use Rattle.run_files.specs.Causes.{Reaches, Refuses}

@@ -2,7 +2,7 @@ use Rattle.std.proofs.Common.{sym, subst}
 use Rattle.seq_io.specs.Views.{ShelfView}
 use Rattle.run_files.specs.Stops.{Explains}
 use Rattle.run_files.specs.declared.stop.NamedFile.TheVariants.{Plan}
-use Rattle.run_files.proofs.ReadLaws.{unkept, unread}
+use Rattle.run_files.proofs.ReadLaws.{unread}
 use Rattle.run_files.proofs.files.load_named_plan.Goals as goal
 
 pub returns-in-Err-clause-why : goal.returns-in-Err-clause-why

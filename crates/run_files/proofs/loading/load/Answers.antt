@@ -1,4 +1,4 @@
-use Rattle.std.proofs.Common.{rules, zero, [], length, refl, sym, subst}
+use Rattle.std.proofs.Common.{rules, length, refl, sym, subst}
 use Rattle.seq_io.specs.Views.{ShelfView}
 use Rattle.run_files.specs.Jobs.{IsLoaded}
 use Rattle.run_files.specs.Loading.{Loading}
