@@ -1,4 +1,4 @@
-use Rattle.std.proofs.Common.{◌≡◌, ◌+◌, ◌-◌, ◌<◌, ◌^◌, ◌++◌}
+use Rattle.std.proofs.Common.{◌≡◌, ◌-◌, ◌<◌, ◌^◌, ◌++◌}
 use Rattle.seq_trial.specs.Towers.{meshes_from}
 use Rattle.seq_trial.proofs.files.draw_files.Given as goal
 

@@ -1,4 +1,4 @@
-use Rattle.std.proofs.Common.{◌≡◌, suc, ◌+◌, ◌-◌, ◌*◌, ◌<◌, ◌^◌, ap, ◌∙◌, arith}
+use Rattle.std.proofs.Common.{◌≡◌, suc, ◌+◌, ◌-◌, ap, ◌∙◌, arith}
 use Rattle.seq_trial.specs.Towers.{narrowed}
 use Rattle.seq_trial.proofs.Steps.{one_layer, one_draw}
 use Rattle.seq_trial.proofs.tower.put_higher.Goals as goal
