@@ -4,8 +4,7 @@
 --   SomeWide vars rows           the walk from all slacks ends before a wide basis
 --   Exactly vars rows solved     each answer comes just where its case is so
 use Rattle.std.proofs.Common.{◌≡◌, ◌↔◌, ℕ, List, ℤ}
-use Rattle.model_laws.specs.Laws.Farkas.{no_point}
-use Rattle.feasible_point.specs.Answering.{NeverWide, Solves}
+use Rattle.feasible_point.specs.Answering.{NeverWide}
 use Rattle.feasible_point.specs.declared.Solved.{Solved}
 use Rattle.feasible_point.specs.declared.Solved.TheVariants as Solveds
 use Rattle.seq_model.specs.Systems.{MeetsRows}
@@ -40,20 +39,3 @@ pub record Exactly (vars : ℕ) (rows : List Row) (solved : Solved) : Type 0 whe
   pub point : IsPoint solved ↔ (SomePoint rows × NeverWide vars rows)
   pub contradiction : IsContradiction solved ↔ (NoPoint rows × NeverWide vars rows)
   pub wide : IsWideAnswer solved ↔ SomeWide vars rows
-
-pub exactly : (vars : ℕ) (rows : List Row) (solved : Solved) → Solves vars rows solved → Exactly vars rows solved
-exactly vars rows (Solveds.Point den list) s = record {
-  point = (λ i. ((den, list.items, s.0), s.2), λ k. tt);
-  contradiction = (λ i. absurd i, λ k. k.0 den list.items s.0);
-  wide = (λ i. absurd i, λ k. s.2 k.0 k.1 k.2);
-}
-exactly vars rows (Solveds.Contradiction list) s = record {
-  point = (λ i. absurd i, λ k. no_point rows list.items s.0 k.0.0 k.0.1 k.0.2);
-  contradiction = (λ i. (no_point rows list.items s.0, s.5), λ k. tt);
-  wide = (λ i. absurd i, λ k. s.5 k.0 k.1 k.2);
-}
-exactly vars rows (Solveds.Wide basis row) s = record {
-  point = (λ i. absurd i, λ k. k.1 basis.items row s);
-  contradiction = (λ i. absurd i, λ k. k.1 basis.items row s);
-  wide = (λ i. (basis.items, row, s), λ k. tt);
-}

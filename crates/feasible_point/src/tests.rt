@@ -8,24 +8,36 @@ use std::test::Fail;
 
 const BIG: i64 = 1 << 61;
 
-/// What a system of two variables has: a point over the denominator, two rows of a contradiction and how often each is
-/// taken, or a basis of two and its row.
+/// What a system of two variables has: a point over the denominator; how many rows contradict, the first and the last of
+/// them and how often each is taken; or a basis of two and its row.
 #[derive(Clone, Copy, Debug, PartialEq, Eq)]
 enum Found {
-    Point { den: i64, x: i64, y: i64 },
-    Pair { rows: (u32, u32), times: (i64, i64) },
-    Alone { row: u32, times: i64 },
-    Wide { basis: (u32, u32), row: u32 },
+    Point {
+        den: i64,
+        x: i64,
+        y: i64,
+    },
+    Taken {
+        many: usize,
+        first: (u32, i64),
+        last: (u32, i64),
+    },
+    Wide {
+        basis: (u32, u32),
+        row: u32,
+    },
     Other,
 }
 
-static SOLVED: [(&[(i64, [i64; 2])], Found); 9] = [
+// The last contradiction has 3 and 6 before they are divided by 3: there 1/3 <= y and 3/2 <= x <= 1.
+static SOLVED: [(&[(i64, [i64; 2])], Found); 13] = [
     (&[(-1, [2, 0])], Found::Point { den: 2, x: 1, y: 0 }),
     (
         &[(-5, [1, 0]), (3, [-1, 0])],
-        Found::Pair {
-            rows: (0, 1),
-            times: (1, 1),
+        Found::Taken {
+            many: 2,
+            first: (0, 1),
+            last: (1, 1),
         },
     ),
     (&[], Found::Point { den: 1, x: 0, y: 0 }),
@@ -44,13 +56,52 @@ static SOLVED: [(&[(i64, [i64; 2])], Found); 9] = [
         &[(-3, [2, 1]), (8, [-1, -1])],
         Found::Point { den: 2, x: 3, y: 0 },
     ),
-    (&[(-1, [0, 0])], Found::Alone { row: 0, times: 1 }),
-    (&[(-2, [-1, -3])], Found::Alone { row: 0, times: 1 }),
+    (
+        &[(-1, [0, 0])],
+        Found::Taken {
+            many: 1,
+            first: (0, 1),
+            last: (0, 1),
+        },
+    ),
+    (
+        &[(-2, [-1, -3])],
+        Found::Taken {
+            many: 1,
+            first: (0, 1),
+            last: (0, 1),
+        },
+    ),
     (
         &[(-4, [1, -1]), (-1, [-1, 1])],
-        Found::Pair {
-            rows: (0, 1),
-            times: (1, 1),
+        Found::Taken {
+            many: 2,
+            first: (0, 1),
+            last: (1, 1),
+        },
+    ),
+    (
+        &[(-2, [1, -1]), (-1, [0, 1])],
+        Found::Point { den: 1, x: 3, y: 1 },
+    ),
+    (
+        &[(1, [-1, -1]), (-1, [1, 0]), (-1, [0, 1])],
+        Found::Taken {
+            many: 3,
+            first: (0, 1),
+            last: (2, 1),
+        },
+    ),
+    (
+        &[(3, [-2, 0]), (5, [0, -1]), (-2, [1, 1])],
+        Found::Point { den: 2, x: 3, y: 1 },
+    ),
+    (
+        &[(-1, [0, 3]), (-3, [2, 0]), (1, [-1, 0])],
+        Found::Taken {
+            many: 2,
+            first: (1, 1),
+            last: (2, 2),
         },
     ),
 ];
@@ -80,16 +131,12 @@ fn found_in(solved: &Solved) -> Found {
             Found::Other
         }
         Solved::Contradiction(mults) => {
-            if mults.len() == 1 {
-                return Found::Alone {
-                    row: mults[0].row,
-                    times: mults[0].times,
-                };
-            }
-            if mults.len() == 2 {
-                return Found::Pair {
-                    rows: (mults[0].row, mults[1].row),
-                    times: (mults[0].times, mults[1].times),
+            if mults.len() > 0 {
+                let last = mults.len() - 1;
+                return Found::Taken {
+                    many: mults.len(),
+                    first: (mults[0].row, mults[0].times),
+                    last: (mults[last].row, mults[last].times),
                 };
             }
             Found::Other

@@ -4,6 +4,7 @@ ghost use Rattle.integer_laws.specs.Divisors.{IsGcdOf};
 ghost use Rattle.row_pivots.specs.Ends.{Small};
 ghost use Rattle.row_dictionary.specs.Mixing.{mixed, mixed_numbers, mixed_line, IsCommon};
 
+use crate::division::{divided, divides};
 use integer_laws::{difference, wide_product};
 use seq_num::gcd;
 
@@ -66,7 +67,7 @@ fn quotient(x: i128, mix: &Mix) -> i128
     if mix.g == 1 {
         return x;
     }
-    x / mix.g
+    divided(&x, &mix.g)
 }
 
 /// Whether a number is 2^62 or more in size.
@@ -88,6 +89,13 @@ fn is_wide_quotient(x: &i128, mix: &Mix) -> bool
     is_wide(&quotient(*x, mix))
 }
 
+/// Whether the number at a place stays as it is: what leaves has none there, and the divisor is the factor.
+fn is_kept(mix: &Mix, i: usize, y: &i64) -> bool
+    ensures { IsTrue result → (y.now ≡ pos 0) × (mix.now.p ≡ mix.now.g) × (i ≢ mix.now.place) }
+{
+    *y == 0 && i128::from(mix.p) == mix.g && i != mix.place
+}
+
 /// Whether the new number at a place is wide.
 fn is_wide_number(mix: &Mix, i: usize, z: &i64, y: &i64) -> bool
     requires d { Small mix.now.d }
@@ -98,7 +106,24 @@ fn is_wide_number(mix: &Mix, i: usize, z: &i64, y: &i64) -> bool
     requires y { Small y.now }
     ensures { IsTrue result ↔ (2 ^ 62 ≤ unsigned_abs (int_div (mixed mix.now i z.now y.now) mix.now.g)) }
 {
+    if is_kept(mix, i, y) {
+        return false;
+    }
     is_wide_quotient(&number(mix, i, z, y), mix)
+}
+
+/// Whether the number at a place is a multiple of what was found, since what leaves has none there.
+fn is_multiple(found: &i128, mix: &Mix, i: usize, y: &i64) -> bool
+    ensures { IsTrue result → (y.now ≡ pos 0) × (mix.now.p ≡ found.now) × (i ≢ mix.now.place) × (pos 0 <ℤ found.now) }
+{
+    *y == 0 && i128::from(mix.p) == *found && i != mix.place && *found > 0
+}
+
+/// Whether all numbers are multiples of what was found, since the line has no entry at what enters.
+pub fn are_multiples(found: &i128, mix: &Mix) -> bool
+    ensures { IsTrue result → (mix.now.q ≡ pos 0) × (mix.now.p ≡ found.now) }
+{
+    mix.q == 0 && i128::from(mix.p) == *found
 }
 
 /// The common divisor of a number and the one at a place, before it is divided.
@@ -112,13 +137,10 @@ fn divisor_with(found: &i128, mix: &Mix, i: usize, z: &i64, y: &i64) -> i128
     ensures is { IsGcdOf found.now (mixed mix.now i z.now y.now) result }
     ensures size { unsigned_abs result < 2 ^ 126 }
 {
+    if is_multiple(found, mix, i, y) {
+        return *found;
+    }
     common_with(found, &number(mix, i, z, y))
-}
-
-fn divides(found: &i128, x: &i128) -> bool
-    ensures { IsTrue result → (pos 0 <ℤ found.now) × (int_rem x.now found.now ≡ pos 0) }
-{
-    *found > 0 && *x % *found == 0
 }
 
 /// The greatest common divisor of two numbers, of which the first mostly divides the second.
@@ -189,6 +211,9 @@ fn new_number(mix: &Mix, i: usize, z: &i64, y: &i64) -> i64
     requires fits { Small (int_div (mixed mix.now i z.now y.now) mix.now.g) }
     ensures { result ≡ int_div (mixed mix.now i z.now y.now) mix.now.g }
 {
+    if is_kept(mix, i, y) {
+        return *z;
+    }
     quotient(number(mix, i, z, y), mix) as i64
 }
 

@@ -99,7 +99,7 @@ impl Variables {
 fn first_places(alloc: Global, vars: u32, count: u32) -> Result<Vec<usize>, AllocError>
     ensures { IfOk result (λ list. list.items ≡ range_with_len 0 vars ++ range_with_len 0 count) }
 {
-    let mut list = Vec::new(alloc);
+    let mut list = Vec::with_capacity(alloc, vars as usize + count as usize)?;
     for z in 0..vars {
         list.push(z as usize)?;
     }

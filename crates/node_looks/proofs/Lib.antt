@@ -1,0 +1,10 @@
+pub mod CompletingLaws
+pub mod HitLaws
+pub mod LeafLaws
+pub mod OrderLaws
+pub mod RegionLaws
+pub mod RowLaws
+pub mod Scaling
+pub mod SplitLaws
+pub mod SurveyLaws
+pub mod ZeroLaws

@@ -1,0 +1,22 @@
+use Rattle.std.proofs.Common.{◌≡◌, List, map, sym, ap, subst, ◌∙◌}
+use Rattle.node_looks.proofs.Scaling.{found_plan, unscaled}
+use Rattle.node_looks.specs.Points.{values}
+use Rattle.plan_laws.specs.Ordered.{plan_of}
+use Rattle.seq_model.specs.Jobs.{scene_of_job}
+use Rattle.seq_model.specs.Scenes.{Valid}
+use Rattle.seq_model.specs.declared.plan.Place.{Place}
+use Rattle.node_looks.proofs.plans.plan_at.Goals as goal
+
+pub returns-clause-found : goal.returns-clause-found
+returns-clause-found c =
+    let den = c.args.at.now.den in
+    let same = c.deref.ensures.value ∙ c.in_ok-places.ensures.value in
+    found_plan c.args.job.now c.args.extent den c.deref.result.now c.in_ok-plan.plan c.requires.point.one c.requires.point.small
+    (subst (λ (ps : List Place). Valid (scene_of_job c.args.job.now) c.args.extent (record { scale = den; places = ps })) (sym same) c.requires.valid)
+    c.in_ok-plan.ensures.over c.in_ok-plan.ensures.each
+
+pub returns-clause-unscaled : goal.returns-clause-unscaled
+returns-clause-unscaled c = λ one.
+    let den = c.args.at.now.den in
+    let same = c.deref.ensures.value ∙ c.in_ok-places.ensures.value in
+    unscaled den c.deref.result.now c.in_ok-plan.plan one c.in_ok-plan.ensures.over ∙ ap (λ (ps : List Place). record { scale = den; places = ps }) same

@@ -1,0 +1,235 @@
+//! What stands against an order of all objects at a point: a candidate for a split, or the orders that are forced there.
+
+ghost use Rattle.std.specs.Prelude.{◌≡◌, ◌≢◌, ℕ, ◌+◌, ◌*◌, ◌<◌, ◌≤◌, ◌⊎◌, [], ◌∷◌, ◌++◌, List, length, IfOk, OnOk, IsSome, MatchOption};
+ghost use Rattle.node_looks.specs.Candidates.{IsCandidate, IsPairLook, IsSurveyed};
+ghost use Rattle.node_looks.specs.declared.survey.Candidate.TheVariants as Candidates;
+ghost use Rattle.node_looks.specs.Held.{IsTable};
+ghost use Rattle.node_looks.specs.Points.{IsPointOf, values};
+ghost use Rattle.plan_laws.specs.Looking.{OnPath};
+ghost use Rattle.seq_model.specs.Splits.{CollidesAt, IsUnordered, Values};
+ghost use Rattle.seq_model.specs.declared.job.Job.{Job};
+ghost use Rattle.seq_model.specs.declared.tree.Choice.{Choice};
+
+use crate::hits::hit;
+use crate::orders::is_on;
+use crate::points::SystemPoint;
+use seq_model::{Choice, Contact, Job};
+use std::alloc::{AllocError, Global};
+
+/// A split that could be made.
+#[derive(Clone, Copy, Debug)]
+pub(crate) enum Candidate {
+    /// This contact is opened.
+    Side(Contact),
+    /// These two are ordered.
+    Order { i: u32, j: u32 },
+}
+
+/// What the contacts of two objects show at a point.
+#[derive(Clone, Copy, Debug)]
+pub(crate) enum PairLook {
+    Settled,
+    Forced { first: u32, second: u32 },
+    Split(Candidate),
+}
+
+/// What all of them show.
+#[derive(Debug, Drop)]
+pub(crate) struct Survey {
+    pub best: Option<Candidate>,
+    pub forced: Vec<(u32, u32)>,
+}
+
+// A contact of an order of the path that collides.
+fn hit_on_path(
+    job: &Job,
+    extent: u32,
+    path: &[Choice],
+    table: &[bool; 256],
+    at: &SystemPoint,
+    i: u32,
+    j: u32,
+) -> Option<Contact>
+    requires from_one { 1 ≤ extent }
+    requires to_grid { extent ≤ job.now.printer.grid }
+    requires table { IsTable path.now table.now }
+    requires point { IsPointOf job.now at.now }
+    requires i { i < length job.now.objects }
+    requires j { j < length job.now.objects }
+    requires apart { i ≢ j }
+    ensures { MatchOption result (OnPath path.now i j → CollidesAt job.now extent (values at.now) i j → ⊥)
+        (λ c. IsCandidate job.now extent path.now (values at.now) (Candidates.Side c)) }
+{
+    if !is_on(path, table, i, j) {
+        return None;
+    }
+    hit(job, extent, at, i, j)
+}
+
+// Two objects of which one is before the other on the path.
+fn ordered_pair(
+    job: &Job,
+    extent: u32,
+    path: &[Choice],
+    table: &[bool; 256],
+    at: &SystemPoint,
+    i: u32,
+    j: u32,
+) -> PairLook
+    requires from_one { 1 ≤ extent }
+    requires to_grid { extent ≤ job.now.printer.grid }
+    requires table { IsTable path.now table.now }
+    requires point { IsPointOf job.now at.now }
+    requires i { i < length job.now.objects }
+    requires j { j < length job.now.objects }
+    requires apart { i ≢ j }
+    requires ordered { OnPath path.now i j ⊎ OnPath path.now j i }
+    ensures { IsPairLook job.now extent path.now (values at.now) i j result }
+{
+    match hit_on_path(job, extent, path, table, at, i, j) {
+        Some(contact) => PairLook::Split(Candidate::Side(contact)),
+        None => match hit_on_path(job, extent, path, table, at, j, i) {
+            Some(contact) => PairLook::Split(Candidate::Side(contact)),
+            None => PairLook::Settled,
+        },
+    }
+}
+
+// Two objects that are unordered on the path.
+fn unordered_pair(job: &Job, extent: u32, path: &[Choice], at: &SystemPoint, i: u32, j: u32) -> PairLook
+    requires from_one { 1 ≤ extent }
+    requires to_grid { extent ≤ job.now.printer.grid }
+    requires point { IsPointOf job.now at.now }
+    requires low { i < j }
+    requires high { j < length job.now.objects }
+    requires unordered { IsUnordered path.now i j }
+    ensures { IsPairLook job.now extent path.now (values at.now) i j result }
+{
+    let there = hit(job, extent, at, i, j);
+    let back = hit(job, extent, at, j, i);
+    match (there, back) {
+        (None, None) => PairLook::Settled,
+        (Some(_), None) => PairLook::Forced { first: j, second: i },
+        (None, Some(_)) => PairLook::Forced { first: i, second: j },
+        (Some(_), Some(_)) => PairLook::Split(Candidate::Order { i, j }),
+    }
+}
+
+fn pair_look(
+    job: &Job,
+    extent: u32,
+    path: &[Choice],
+    table: &[bool; 256],
+    at: &SystemPoint,
+    i: u32,
+    j: u32,
+) -> PairLook
+    requires from_one { 1 ≤ extent }
+    requires to_grid { extent ≤ job.now.printer.grid }
+    requires table { IsTable path.now table.now }
+    requires point { IsPointOf job.now at.now }
+    requires low { i < j }
+    requires high { j < length job.now.objects }
+    ensures { IsPairLook job.now extent path.now (values at.now) i j result }
+{
+    if is_on(path, table, i, j) {
+        return ordered_pair(job, extent, path, table, at, i, j);
+    }
+    if is_on(path, table, j, i) {
+        return ordered_pair(job, extent, path, table, at, i, j);
+    }
+    unordered_pair(job, extent, path, at, i, j)
+}
+
+impl Survey {
+    // The first one is the best.
+    fn keep(&mut self, candidate: Candidate)
+        ensures best { (self.new.best ≡ Some candidate) ⊎ (IsSome self.old.best × (self.new.best ≡ self.old.best)) }
+        ensures forced { self.new.forced.items ≡ self.old.forced.items }
+    {
+        if self.best.is_none() {
+            self.best = Some(candidate);
+        }
+    }
+
+    fn force(&mut self, first: u32, second: u32) -> Result<(), AllocError>
+        ensures { OnOk result ((self.new.best ≡ self.old.best)
+            × (self.new.forced.items ≡ self.old.forced.items ++ (first, second) ∷ [])) }
+    {
+        self.forced.push((first, second))?;
+        Ok(())
+    }
+
+    // Notes what was seen of one pair more.
+    fn note(&mut self, i: u32, j: u32, look: PairLook) -> Result<(), AllocError>
+        requires low { i < j }
+        requires high { j < 16 }
+        ensures { (job : Job) (e : ℕ) (path : List Choice) (at : Values)
+            → IsSurveyed job e path at (16 * i + j) self.old.best self.old.forced.items
+            → IsPairLook job e path at i j look
+            → OnOk result (IsSurveyed job e path at (16 * i + j + 1) self.new.best self.new.forced.items) }
+    {
+        match look {
+            PairLook::Settled => Ok(()),
+            PairLook::Forced { first, second } => self.force(first, second),
+            PairLook::Split(candidate) => {
+                self.keep(candidate);
+                Ok(())
+            }
+        }
+    }
+}
+
+// Looks at pair number k, if there is one.
+fn look_at_number(
+    survey: &mut Survey,
+    job: &Job,
+    extent: u32,
+    path: &[Choice],
+    table: &[bool; 256],
+    at: &SystemPoint,
+    k: u32,
+) -> Result<(), AllocError>
+    requires from_one { 1 ≤ extent }
+    requires to_grid { extent ≤ job.now.printer.grid }
+    requires table { IsTable path.now table.now }
+    requires point { IsPointOf job.now at.now }
+    requires k { k < 256 }
+    requires before { IsSurveyed job.now extent path.now (values at.now) k survey.old.best survey.old.forced.items }
+    ensures { OnOk result (IsSurveyed job.now extent path.now (values at.now) (k + 1) survey.new.best survey.new.forced.items) }
+{
+    let i = k / 16;
+    let j = k % 16;
+    if i >= j {
+        return Ok(());
+    }
+    if j as usize >= job.objects.len() {
+        return Ok(());
+    }
+    survey.note(i, j, pair_look(job, extent, path, table, at, i, j))
+}
+
+/// Looks at all pairs of objects at the point.
+pub(crate) fn look_at_pairs(
+    alloc: Global,
+    job: &Job,
+    extent: u32,
+    path: &[Choice],
+    table: &[bool; 256],
+    at: &SystemPoint,
+) -> Result<Survey, AllocError>
+    requires from_one { 1 ≤ extent }
+    requires to_grid { extent ≤ job.now.printer.grid }
+    requires table { IsTable path.now table.now }
+    requires point { IsPointOf job.now at.now }
+    ensures { IfOk result (λ s. IsSurveyed job.now extent path.now (values at.now) 256 s.best s.forced.items) }
+{
+    let mut survey = Survey {
+        best: None,
+        forced: Vec::new(alloc),
+    };
+    for k in 0..256 {
+        look_at_number(&mut survey, job, extent, path, table, at, k)?;
+    }
+    Ok(survey)
+}

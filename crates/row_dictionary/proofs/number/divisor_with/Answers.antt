@@ -1,0 +1,13 @@
+use Rattle.std.proofs.Common.{rules, ℤ, sym, subst, SFits, to_z-of_z}
+use Rattle.std.specs.Int.{w128}
+use Rattle.integer_laws.specs.Divisors.{IsGcdOf}
+use Rattle.row_dictionary.specs.Mixing.{mixed}
+use Rattle.row_dictionary.proofs.Keeping.{multiple_number}
+use Rattle.row_dictionary.proofs.number.divisor_with.Goals as goal
+
+pub returns-then-is_multiple-clause-is : goal.returns-then-is_multiple-clause-is
+returns-then-is_multiple-clause-is c =
+    let k = c.is_multiple.ensures c.if-is_multiple.true in
+    let fits : SFits w128 c.args.found.now = search rules in
+    subst (λ (t : ℤ). IsGcdOf c.args.found.now (mixed c.args.mix.now c.args.i c.args.z.now c.args.y.now) t) (sym (to_z-of_z fits))
+    (multiple_number c.args.mix.now c.args.i c.args.z.now c.args.y.now c.args.found.now k.0 k.1 k.2 k.3)

@@ -1,0 +1,70 @@
+ghost use Rattle.std.specs.Prelude.{◌≡◌, ◌<◌, ◌^◌, ℤ, pos, ◌<ℤ◌, unsigned_abs, IsTrue, int_div, int_rem};
+
+/// Whether both numbers are below 2^63 in size, so that the quicker division of such numbers serves.
+fn are_short(x: &i128, y: &i128) -> bool
+    ensures { IsTrue result → (unsigned_abs x.now < 2 ^ 63) × (unsigned_abs y.now < 2 ^ 63) }
+{
+    x.unsigned_abs() < 1 << 63 && y.unsigned_abs() < 1 << 63
+}
+
+fn short(x: &i128) -> i64
+    requires { unsigned_abs x.now < 2 ^ 63 }
+    ensures value { result ≡ x.now }
+    ensures size { unsigned_abs result < 2 ^ 63 }
+{
+    *x as i64
+}
+
+fn short_quotient(x: &i64, g: &i64) -> i64
+    requires x { unsigned_abs x.now < 2 ^ 63 }
+    requires g { 0 < unsigned_abs g.now }
+    ensures value { result ≡ int_div x.now g.now }
+{
+    *x / *g
+}
+
+fn divided_short(x: &i128, g: &i128) -> i128
+    requires x { unsigned_abs x.now < 2 ^ 63 }
+    requires g { 0 < unsigned_abs g.now }
+    requires short { unsigned_abs g.now < 2 ^ 63 }
+    ensures value { result ≡ int_div x.now g.now }
+{
+    i128::from(short_quotient(&short(x), &short(g)))
+}
+
+/// The quotient, towards 0.
+pub fn divided(x: &i128, g: &i128) -> i128
+    requires x { unsigned_abs x.now < 2 ^ 125 }
+    requires g { 0 < unsigned_abs g.now }
+    ensures value { result ≡ int_div x.now g.now }
+    ensures size { unsigned_abs result < 2 ^ 125 }
+{
+    if are_short(x, g) {
+        return divided_short(x, g);
+    }
+    *x / *g
+}
+
+fn short_divides(found: &i64, x: &i64) -> bool
+    ensures { IsTrue result → (pos 0 <ℤ found.now) × (int_rem x.now found.now ≡ pos 0) }
+{
+    *found > 0 && (*x == 0 || *x % *found == 0)
+}
+
+fn divides_short(found: &i128, x: &i128) -> bool
+    requires found { unsigned_abs found.now < 2 ^ 63 }
+    requires x { unsigned_abs x.now < 2 ^ 63 }
+    ensures { IsTrue result → (pos 0 <ℤ found.now) × (int_rem x.now found.now ≡ pos 0) }
+{
+    short_divides(&short(found), &short(x))
+}
+
+/// Whether a positive number divides another.
+pub fn divides(found: &i128, x: &i128) -> bool
+    ensures { IsTrue result → (pos 0 <ℤ found.now) × (int_rem x.now found.now ≡ pos 0) }
+{
+    if are_short(found, x) {
+        return divides_short(found, x);
+    }
+    *found > 0 && *x % *found == 0
+}
