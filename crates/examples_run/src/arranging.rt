@@ -162,33 +162,24 @@ fn large_files_are_read_or_too_long(rt: HostRuntime) -> Result<(), Fail> {
     see(&rt, rt.alloc(), &printer, &large, ARRANGE, (4, b"", line))
 }
 
-// Meshes at their limits and one past them, and the status, the text and the line.
-static LARGEST: [(Mesh, u8, &[u8], &[u8]); 4] = [
-    (Mesh::Wedges(25_000), 0, PLAN, b""),
-    (
-        Mesh::Wedges(25_001),
-        4,
-        b"",
-        b"input: a.stl: more than 200000 facets\n",
-    ),
-    (
-        Mesh::Spaces(67_108_864),
-        4,
-        b"",
-        b"input: a.stl: expected solid at 67108864\n",
-    ),
-    (
-        Mesh::Spaces(67_108_865),
-        4,
-        b"",
-        b"input: a.stl: longer than 67108864 bytes\n",
-    ),
+#[test]
+fn more_facets_than_the_limit_are_refused(rt: HostRuntime) -> Result<(), Fail> {
+    let line = b"input: a.stl: more than 200000 facets\n";
+    let mesh = Mesh::Wedges(25_001);
+    see(&rt, rt.alloc(), PLATE, &mesh, ARRANGE, (4, b"", line))
+}
+
+// Spaces of 64 MiB, and one more.
+static LONG: [(usize, &[u8]); 2] = [
+    (67_108_864, b"input: a.stl: expected solid at 67108864\n"),
+    (67_108_865, b"input: a.stl: longer than 67108864 bytes\n"),
 ];
 
 #[test]
-fn the_largest_meshes_are_read(rt: HostRuntime) -> Result<(), Fail> {
-    for (mesh, status, text, line) in &LARGEST {
-        see(&rt, rt.alloc(), PLATE, mesh, ARRANGE, (*status, text, line))?;
+fn a_mesh_past_64_mib_is_too_long(rt: HostRuntime) -> Result<(), Fail> {
+    for (count, line) in &LONG {
+        let mesh = Mesh::Spaces(*count);
+        see(&rt, rt.alloc(), PLATE, &mesh, ARRANGE, (4, b"", line))?;
     }
     Ok(())
 }

@@ -1,5 +1,5 @@
 -- What is answered of files that are told is so whatever else is said of them.
-use Rattle.std.proofs.Common.{◌≡◌, ℕ, List, Option, Some, ◌⊎◌, inl, inr, refl, sym, ◌∙◌, subst, arith}
+use Rattle.std.proofs.Common.{◌≡◌, ℕ, List, Some, ◌⊎◌, inl, inr, sym, ◌∙◌, subst, arith}
 use Rattle.model_laws.specs.Laws.OnePath.{stands_at_path}
 use Rattle.plan_text.specs.declared.file.PlanFile.{PlanFile}
 use Rattle.run_files.specs.Files.{Inputs, IsPrinterFor, facets_of}
@@ -10,7 +10,7 @@ use Rattle.seq_io.specs.declared.mem_file.MemFile.{MemFile}
 use Rattle.seq_model.specs.Scenes.{Description, Valid, scene_of_files}
 use Rattle.seq_model.specs.declared.job.Job.{Job}
 use Rattle.seq_model.specs.declared.plan.Plan.{Plan}
-use Rattle.seq_run.specs.Printed.{Answers, IsGoodPlan, Prints, PrintsSpent, PrintsWide, scene_of}
+use Rattle.seq_run.specs.Printed.{Answers, Prints, PrintsSpent, PrintsWide, scene_of}
 use Rattle.seq_run.specs.Runs.{HasEnough, HasFault, HasNoPlan, IsEnough}
 use Rattle.seq_run.specs.declared.status.Verdict.TheVariants.{Done, Fault, NoPlan, Undecided}
 

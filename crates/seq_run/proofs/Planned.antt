@@ -1,18 +1,18 @@
 -- What the search of a job answers is what `arrange` prints of its files, and the bands of its one object what `slices` does.
-use Rattle.std.proofs.Common.{◌≡◌, ℕ, ◌<◌, ◌≤◌, Bool, List, [], ◌∷◌, length, get_or, Option, ◌⊎◌, inl, inr, refl, sym, ap, ◌∙◌, subst, arith}
+use Rattle.std.proofs.Common.{◌≡◌, ℕ, ◌<◌, ◌≤◌, Bool, List, [], ◌∷◌, length, get_or, Option, ◌⊎◌, inl, inr, refl, sym, ap, subst, arith}
 use Rattle.std.proofs.lemmas.Bool.{cases_lt}
 use Rattle.std.specs.List.{AllZip}
 use Rattle.answer_laws.specs.Laws.OfFiles.{none_of_files}
 use Rattle.decision_text.specs.DecisionText.{decision_text, file_of}
 use Rattle.decision_text.specs.Laws.Spelled.{decision_stated}
 use Rattle.model_laws.specs.Laws.Reading.{reads_weaker}
-use Rattle.node_looks.specs.Looks.{HasZeroPlan, IsFound}
+use Rattle.node_looks.specs.Looks.{HasZeroPlan}
 use Rattle.plan_text.specs.PlanText.{IsPlanFile}
 use Rattle.plan_text.specs.declared.file.PlanFile.{PlanFile}
 use Rattle.refinement_loop.specs.Decisions.{IsDecision, IsRefutation, IsSpent, IsSpentDecision, IsWideEnd, IsZeroDecision}
 use Rattle.refinement_loop.specs.declared.deciding.Decision.{Decision}
 use Rattle.refinement_loop.specs.declared.deciding.Decision.TheVariants as Decisions
-use Rattle.run_files.specs.Files.{Inputs, NamedMesh, facets_of}
+use Rattle.run_files.specs.Files.{NamedMesh, facets_of}
 use Rattle.run_files.specs.Jobs.{IsJobOf, IsObjectFor}
 use Rattle.run_files.specs.Laws.Made.{made_from, same_plans}
 use Rattle.run_files.specs.declared.words.Task.TheVariants as Tasks
