@@ -1,3 +1,6 @@
 pub mod FirstContacts
+pub mod Keeping
 pub mod Laws
 pub mod Limits
+pub mod Maximal
+pub mod SolvedPoints

@@ -1,18 +1,13 @@
 -- Sides with the greatest values along them.
 --
---   Covers T S        along each side of T, S reaches no farther
 --   AreLimits S ls    the sides of S, by angle, each with the greatest value along it
 --   IsFit l           a short direction, and a value below 2^46 in size
-use Rattle.std.specs.Prelude.{◌≡◌, ◌<◌, ◌^◌, List, map, ◌≤ℤ◌, unsigned_abs}
+use Rattle.std.specs.Prelude.{◌≡◌, ◌<◌, ◌^◌, List, map, unsigned_abs}
 use Rattle.integer_laws.specs.Members.{In}
-use Rattle.seq_model.specs.Sides.{greatest_along, Side, AreSides}
+use Rattle.seq_model.specs.Sides.{greatest_along, AreSides}
 use Rattle.seq_model.specs.declared.printer.Spot.{Spot}
-use Rattle.seq_model.specs.declared.tree.Dir.{Dir}
 use Rattle.outline_laws.specs.Directions.{IsShort}
 use Rattle.pair_constraints.specs.declared.limits.Limit.{Limit}
-
-abbrev pub Covers : List Spot → List Spot → Type 0
-Covers T S = (dir : Dir) → Side T dir → greatest_along dir S ≤ℤ greatest_along dir T
 
 pub record AreLimits (S : List Spot) (ls : List Limit) : Type 0 where
   pub sides : AreSides S (map (λ (l : Limit). l.dir) ls)

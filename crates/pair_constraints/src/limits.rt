@@ -10,7 +10,8 @@ ghost use Rattle.outline_laws.specs.Beyond.{FitsProducts};
 ghost use Rattle.outline_laws.specs.Corners.{HasArea};
 ghost use Rattle.outline_laws.specs.Directions.{IsShort};
 ghost use Rattle.outline_laws.specs.Outlines.{AreOutlines};
-ghost use Rattle.pair_constraints.specs.Limits.{AreLimits, Covers, IsFit};
+ghost use Rattle.pair_constraints.specs.Limits.{AreLimits, IsFit};
+ghost use Rattle.search_laws.specs.Covering.{Covers};
 ghost use Rattle.pair_constraints.specs.Laws.Covering.{is_short_of, is_under, limit_of};
 
 use difference_polygon::{sides_of, support};
@@ -34,7 +35,7 @@ fn is_below(limit: &Limit, at: &RatPoint) -> bool
     value_at(&limit.dir, at) < limit_at(limit.most, at)
 }
 
-fn all_below(limits: &[Limit], at: &RatPoint) -> bool
+pub(crate) fn all_below(limits: &[Limit], at: &RatPoint) -> bool
     requires limits { All IsFit limits.now }
     requires at { FitsProducts at.now }
     ensures { result ≡ list_all (is_under at.now) limits.now }
@@ -105,7 +106,7 @@ fn reaches_no_farther(limit: &Limit, a: &[Spot], b: &[Spot], f: &[Spot]) -> bool
     limit.most >= support(limit.dir, a, b, f)
 }
 
-fn all_reach_no_farther(limits: &[Limit], a: &[Spot], b: &[Spot], f: &[Spot]) -> bool
+pub(crate) fn all_reach_no_farther(limits: &[Limit], a: &[Spot], b: &[Spot], f: &[Spot]) -> bool
     requires limits { All IsFit limits.now }
     requires outlines { AreOutlines a.now b.now f.now }
     ensures { result ≡ list_all (is_short_of (difference a.now b.now f.now)) limits.now }

@@ -1,17 +1,15 @@
 -- One list covers another where it reaches as far along each of its sides: then the inner points of the other are inner to it.
 --
---   Covers T S            along each side of T, S reaches no farther
---   inner_of_covered      what is inner to S is inner to T
+--   below_bound           what is inner to a list stays below any bound of it along any direction
 --   never_opened          beyond a side of T nothing is inner to S
 --   out_of_reach          beyond any direction, a side or not, nothing is inner: a box's four directions among them
 --   Limit                 a direction with the greatest value along it
 --   AreLimits S ls        the sides of S with their greatest values
 --   inside_limits         a point is inner to S exactly where it is below all limits
-use Rattle.std.proofs.Common.{◌≡◌, List, [], ◌∷◌, map, refl, ap, ap₂, sym, subst, arith, ℤ, ◌+ℤ◌, ◌*ℤ◌, ◌≤ℤ◌, ◌<ℤ◌, ◌↔◌, inl, inr, Bool, true, false, not, ◌&&◌, ◌<◌, ◌^◌, unsigned_abs}
+use Rattle.std.proofs.Common.{◌≡◌, List, [], ◌∷◌, map, refl, ap, ap₂, sym, subst, arith, ℤ, ◌+ℤ◌, ◌*ℤ◌, ◌≤ℤ◌, ◌<ℤ◌, ◌↔◌, inl, inr, Bool, true, false, not, ◌&&◌}
 use Rattle.std.specs.Prelude.{int_lt}
 use Rattle.std.specs.List.{list_all}
 use Rattle.std.proofs.lemmas.Bool.Decides.{nat_tests}
-use Rattle.outline_laws.specs.Directions.{IsShort}
 use Rattle.std.proofs.lemmas.Int.{ints}
 use Rattle.integer_laws.specs.Divisors.{IsPrimitive}
 use Rattle.integer_laws.specs.Members.{In}
@@ -23,7 +21,8 @@ use Rattle.seq_model.specs.declared.printer.Spot.{Spot}
 use Rattle.seq_model.specs.declared.tree.Dir.{Dir}
 use Rattle.pair_constraints.specs.declared.limits.Limit.{Limit}
 use Rattle.outline_laws.specs.Corners.{HasArea}
-use Rattle.pair_constraints.specs.Limits.{Covers, AreLimits, IsFit}
+use Rattle.pair_constraints.specs.Limits.{AreLimits}
+use Rattle.search_laws.specs.Covering.{Covers}
 use Rattle.outline_laws.specs.Laws.Means.{inner_below}
 use Rattle.outline_laws.specs.Beyond.{BeyondNoSide}
 use Rattle.outline_laws.specs.Laws.Sides.{greatest_of, some_below, inner_of_free}
@@ -32,7 +31,7 @@ never : {a b : ℤ} → a <ℤ b → b ≤ℤ a → ⊥
 never h k = absurd (omega (arith, ints))
 
 -- what is inner to a list with area stays below any bound of it along any direction
-below_bound : (S : List Spot) (q : Point) (dir : Dir) (g : ℤ) → HasArea S → IsPrimitive dir.x dir.y → greatest_along dir S ≤ℤ g → Inner S q → (dir.x *ℤ q.x +ℤ dir.y *ℤ q.y) <ℤ (g *ℤ q.d)
+pub below_bound : (S : List Spot) (q : Point) (dir : Dir) (g : ℤ) → HasArea S → IsPrimitive dir.x dir.y → greatest_along dir S ≤ℤ g → Inner S q → (dir.x *ℤ q.x +ℤ dir.y *ℤ q.y) <ℤ (g *ℤ q.d)
 below_bound S q dir g area prim most m =
     let is = greatest_of dir S area.i (In-from_contains S area.i area.i_in) in
     let bound : (s : Spot) → In s S → along dir s ≤ℤ g = λ s i. under (is.bound s i) most in
@@ -41,10 +40,6 @@ below_bound S q dir g area prim most m =
   where
     under : {a b c : ℤ} → a ≤ℤ b → b ≤ℤ c → a ≤ℤ c
     under h k = omega (arith, ints)
-
-pub inner_of_covered : (S T : List Spot) (q : Point) → HasArea S → HasArea T → Covers T S → Inner S q → Inner T q
-inner_of_covered S T q s t covers m =
-    inner_of_free T q t m.point (λ dir side beyond. never (below_bound S q dir (greatest_along dir T) s side.primitive (covers dir side) m) beyond)
 
 -- the search opens T alone: at a point beyond a side of T, S isn't met either
 pub never_opened : (S T : List Spot) (q : Point) (dir : Dir) → HasArea S → Covers T S → Side T dir → Beyond T dir q → Inner S q → ⊥
@@ -92,10 +87,10 @@ lt_true m n e = grind (arith, ints, nat_tests)
 true_lt : (m n : ℤ) → m <ℤ n → int_lt m n ≡ true
 true_lt m n h = grind (arith, ints, nat_tests)
 
-no_truth : {P : Type 0} → false ≡ true → P
+pub no_truth : {P : Type 0} → false ≡ true → P
 no_truth e = cc
 
-both_true : (a b : Bool) → (a && b) ≡ true → (a ≡ true) × (b ≡ true)
+pub both_true : (a b : Bool) → (a && b) ≡ true → (a ≡ true) × (b ≡ true)
 both_true true b e = (refl, e)
 both_true false b e = no_truth e
 

@@ -6,7 +6,7 @@
 --   first_number        where a loop by number ends: nothing below a number is so, and it is
 --   first_below         nothing below a number is so, and of what has that number this is the first
 --   one_more, none_with, none_at_all
-use Rattle.std.proofs.Common.{◌≡◌, ℕ, ◌+◌, ◌<◌, ◌≤◌, Option, Some, None, arith, subst, inl, inr, ◌⊎◌}
+use Rattle.std.proofs.Common.{◌≡◌, ℕ, ◌+◌, ◌<◌, ◌≤◌, Some, None, arith, subst, inl, inr, ◌⊎◌}
 use Rattle.std.proofs.lemmas.Bool.{cases_lt}
 pub use Rattle.pair_constraints.specs.FirstContacts.{IsFirst, Sooner}
 

@@ -9,7 +9,7 @@ use Rattle.std.proofs.Common.{lit<, ◌≡◌, ◌≢◌, ℕ, ◌<◌, ◌≤�
 use Rattle.std.proofs.lemmas.List.Elements.{All-get_or, All-weaker}
 use Rattle.outline_laws.specs.Corners.{IsNarrow}
 use Rattle.outline_laws.specs.Outlines.{AreOutlines}
-use Rattle.seq_model.specs.Contacts.{ContactCollides, ZonesMeet}
+use Rattle.seq_model.specs.Contacts.{ZonesMeet}
 use Rattle.model_laws.specs.Laws.Collisions.{contact_collides, collides_by_contact, sound_object, any_default}
 pub use Rattle.pair_constraints.specs.FirstContacts.{ComesBefore, CollidesBetween}
 use Rattle.pair_constraints.specs.Laws.Firsts.{IsFirst, Sooner}

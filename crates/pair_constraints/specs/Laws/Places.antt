@@ -1,30 +1,21 @@
 -- Two outlines at their places overlap, spread by a part, exactly where the later place less the earlier one is inner to the difference.
 --
 --   gap D e l             place l less place e, over the scale D
---   overlap_is_inner      for any two points
 --   overlap_at_places     for two places over one scale
---   contact_is_inner      a contact collides at a point of the search exactly there
-use Rattle.std.proofs.Common.{◌≡◌, ℕ, ◌<◌, ◌^◌, unsigned_abs, List, arith, ℤ, pos, ◌-ℤ◌, ◌*ℤ◌, ◌≤ℤ◌, ◌↔◌}
+use Rattle.std.proofs.Common.{◌≡◌, List, arith, ℤ, pos, ◌-ℤ◌, ◌*ℤ◌, ◌≤ℤ◌, ◌↔◌}
 use Rattle.std.proofs.lemmas.Int.{ints}
 use Rattle.integer_laws.specs.Laws.Ring.{expand}
-use Rattle.seq_model.specs.Contacts.{difference, points_of, IsContact}
+use Rattle.seq_model.specs.Contacts.{difference}
 use Rattle.seq_model.specs.Outlines.{Inner}
 use Rattle.seq_model.specs.Points.{Point, IsPoint, minus, place_point}
 use Rattle.seq_model.specs.Scenes.{Overlap}
-use Rattle.seq_model.specs.Splits.{Values, ContactCollidesAt}
-use Rattle.seq_model.specs.Systems.{place_of}
-use Rattle.seq_model.specs.declared.job.Job.{Job}
 use Rattle.seq_model.specs.declared.plan.Place.{Place}
 use Rattle.seq_model.specs.declared.printer.Spot.{Spot}
-use Rattle.seq_model.specs.declared.tree.Contact.{Contact}
 use Rattle.model_laws.specs.Laws.SamePoints.{mean_of_same, minus_is_point}
 use Rattle.outline_laws.specs.Laws.Overlaps.{inner_of_overlap, overlap_of_inner}
 
 abbrev pub gap : ℤ → Place → Place → Point
 gap scale e l = record { x = l.x -ℤ e.x; y = l.y -ℤ e.y; d = scale }
-
-pub overlap_is_inner : (A B F : List Spot) (p r : Point) → IsPoint p → IsPoint r → Overlap A B F p r ↔ Inner (difference A B F) (minus r p)
-overlap_is_inner A B F p r at place = (λ o. inner_of_overlap A B F p r at o, λ m. overlap_of_inner A B F p r at place m)
 
 there : (l e d : ℤ) → (l -ℤ e) *ℤ (d *ℤ d) ≡ (l *ℤ d -ℤ e *ℤ d) *ℤ d
 there l e d = simp expand (omega (arith, ints))
@@ -42,10 +33,3 @@ overlap_at_places A B F scale e l one =
       λ o. mean_of_same (pos 1) (difference A B F) (minus r p) (gap scale e l) is (record { x = back l.x e.x scale; y = back l.y e.y scale }) (inner_of_overlap A B F p r at o),
       λ m. overlap_of_inner A B F p r at place (mean_of_same (pos 1) (difference A B F) (gap scale e l) (minus r p) (minus_is_point r p place at) (record { x = there l.x e.x scale; y = there l.y e.y scale }) m),
     )
-
-pub contact_is_inner : (job : Job) (e : ℕ) (at : Values) (c : Contact) → pos 1 ≤ℤ at.d
-    → ContactCollidesAt job e at c ↔ (IsContact job c × Inner (points_of job c) (minus (place_of job e at.d at.u c.j) (place_of job e at.d at.u c.i)))
-contact_is_inner job e at c one = (
-  λ k. (k.is, (overlap_is_inner _ _ _ (place_of job e at.d at.u c.i) (place_of job e at.d at.u c.j) (record { positive = one }) (record { positive = one })).0 k.overlap),
-  λ k. record { is = k.0; overlap = (overlap_is_inner _ _ _ (place_of job e at.d at.u c.i) (place_of job e at.d at.u c.j) (record { positive = one }) (record { positive = one })).1 k.1 },
-)

@@ -1,9 +1,9 @@
-use Rattle.std.proofs.Common.{◌≡◌, ◌↔◌, sym, subst, rules, FitsSigned, to_z-of_z, IsTrue, ℤ}
+use Rattle.std.proofs.Common.{◌≡◌, ◌↔◌, sym, subst, rules, FitsSigned, to_z-of_z, ℤ}
 use Rattle.std.specs.Int.{w128}
 use Rattle.model_laws.specs.Laws.Collisions.{contact_by_bands}
 use Rattle.seq_model.specs.Contacts.{IsContact, ContactCollides}
 use Rattle.seq_model.specs.Jobs.{zone_at, part_at}
-use Rattle.seq_model.specs.Points.{Point, place_point}
+use Rattle.seq_model.specs.Points.{place_point}
 use Rattle.seq_model.specs.Scenes.{Overlap}
 use Rattle.seq_model.specs.declared.job.Job.{Job}
 use Rattle.seq_model.specs.declared.plan.Place.{Place}
