@@ -3,6 +3,7 @@
 ghost use Rattle.std.specs.Prelude.{◌≡◌, ◌<◌, ◌≤◌, ◌++◌, [], ◌∷◌, All, length, map, min, max, drop, take, slice_index_or, IfOk, MatchOption};
 ghost use Rattle.node_looks.specs.Held.{IsTable};
 ghost use Rattle.node_looks.specs.Looks.{IsLook, IsVisit, ClosesBy, SplitsBy};
+ghost use Rattle.pair_constraints.specs.Maximal.{AreContacts};
 ghost use Rattle.plan_laws.specs.Looking.{EarnsPair, IsOnOrEarned, OnPath};
 ghost use Rattle.node_looks.specs.Points.{values};
 ghost use Rattle.seq_model.specs.Contacts.{IsContact, difference, points_of};
@@ -15,10 +16,13 @@ ghost use Rattle.seq_model.specs.declared.tree.Choice.TheVariants as Choices;
 ghost use Rattle.seq_model.specs.declared.tree.Node.TheVariants as Nodes;
 
 use crate::Look;
+use crate::advice::visit_of;
 use crate::orders::is_on;
 use crate::points::SystemPoint;
 use difference_polygon::sides_of;
 use owned_lists::Items;
+use pair_constraints::Contacts;
+use search_room::Room;
 use seq_model::{Choice, Contact, Dir, Job, Node, Part, Zone};
 use seq_num::NoMemory;
 use std::alloc::{AllocError, Global};
@@ -86,15 +90,16 @@ pub(crate) fn side_split(
     path: &[Choice],
     contact: &Contact,
     dirs: &[Dir],
+    visit: Items<u32>,
 ) -> Result<Look, AllocError>
     requires sound { IsSoundNode job.now extent path.now (Nodes.Side contact.now (length dirs.now)) }
     requires earned { Earned job.now extent path.now (Nodes.Side contact.now (length dirs.now)) }
     requires sides { AreSides (points_of job.now contact.now) dirs.now }
+    requires visit { IsVisit (length dirs.now) visit }
     ensures { IfOk result (IsLook job.now extent path.now) }
 {
     let children = dirs.len() as u32;
     let choices = sides_as_choices(alloc, contact, dirs)?;
-    let visit = in_order(alloc, children)?;
     Ok(Look::Split {
         node: Node::Side {
             contact: *contact,
@@ -198,20 +203,48 @@ fn sides_of_contact(alloc: Global, job: &Job, contact: &Contact) -> Result<Vec<D
     sides_between(alloc, a, b, part)
 }
 
+// The split by the sides of a contact, the least push first.
+fn open_by(
+    alloc: Global,
+    job: &Job,
+    extent: u32,
+    path: &[Choice],
+    contacts: &Contacts,
+    room: &Room,
+    at: &SystemPoint,
+    contact: &Contact,
+    dirs: &[Dir],
+) -> Result<Look, NoMemory>
+    requires contacts { AreContacts job.now contacts.now }
+    requires sound { IsSoundNode job.now extent path.now (Nodes.Side contact.now (length dirs.now)) }
+    requires earned { Earned job.now extent path.now (Nodes.Side contact.now (length dirs.now)) }
+    requires sides { AreSides (points_of job.now contact.now) dirs.now }
+    ensures { IfOk result (IsLook job.now extent path.now) }
+{
+    let pair = contacts.of_pair(contact.i, contact.j);
+    let visit = visit_of(alloc, room, pair, at, contact, dirs.len() as u32)?;
+    Ok(side_split(alloc, job, extent, path, contact, dirs, visit)?)
+}
+
 /// The split by the sides of a contact that collides at a point of the path.
 pub(crate) fn open_contact(
     alloc: Global,
     job: &Job,
     extent: u32,
     path: &[Choice],
+    contacts: &Contacts,
+    room: &Room,
     at: &SystemPoint,
     contact: &Contact,
 ) -> Result<Look, NoMemory>
+    requires contacts { AreContacts job.now contacts.now }
     requires on { IsOn job.now extent path.now (values at.now) }
     requires ready { OnPath path.now contact.now.i contact.now.j }
     requires collides { ContactCollidesAt job.now extent (values at.now) contact.now }
     ensures { IfOk result (IsLook job.now extent path.now) }
 {
     let dirs = sides_of_contact(alloc, job, contact)?;
-    Ok(side_split(alloc, job, extent, path, contact, &dirs)?)
+    open_by(
+        alloc, job, extent, path, contacts, room, at, contact, &dirs,
+    )
 }

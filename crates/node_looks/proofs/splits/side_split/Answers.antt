@@ -18,4 +18,4 @@ returns c =
     (side_splits c.args.job.now c.args.extent c.args.path.now contact dirs (length dirs) c.in_ok-choices.choices refl c.in_ok-choices.ensures
      (search rules, fit.0, search rules, fit.1, search rules)
      c.requires.sound c.requires.earned c.requires.sides,
-     subst (λ (n : ℕ). IsVisit n c.in_ok-visit.visit) (sym (ap length c.in_ok-choices.ensures ∙ length-map dirs (Choices.Side contact))) c.in_ok-visit.ensures)
+     subst (λ (n : ℕ). IsVisit n c.args.visit) (sym (ap length c.in_ok-choices.ensures ∙ length-map dirs (Choices.Side contact))) c.requires.visit)
