@@ -1,5 +1,5 @@
 -- What the parts of a run give is an answer over its files.
-use Rattle.std.proofs.Common.{◌≡◌, ℕ, zero, suc, List, [], ◌∷◌, length, Option, Some, None, IsSome, refl, sym, ap, ◌∙◌, subst}
+use Rattle.std.proofs.Common.{◌≡◌, ℕ, zero, suc, List, [], ◌∷◌, length, Option, Some, None, refl, sym, ap, ◌∙◌, subst}
 use Rattle.std.specs.List.{AllZip}
 use Rattle.audit_text.specs.AuditText.{audit_text, hit_line, name_of, object_of}
 use Rattle.mesh_slices.specs.Laws.AgreeingJobs.{agree_with_job}
@@ -7,7 +7,6 @@ use Rattle.mesh_slices.specs.Laws.Agreeing.{agree_back}
 use Rattle.plan_audit.specs.Faults.{IsVerdict}
 use Rattle.plan_audit.specs.declared.verdict.Verdict.{Verdict as Audit}
 use Rattle.plan_audit.specs.declared.verdict.Verdict.TheVariants as Audits
-use Rattle.plan_text.specs.PlanText.{IsPlanFile}
 use Rattle.plan_text.specs.declared.file.PlanFile.{PlanFile}
 use Rattle.printer_text.specs.Printers.{AreKept}
 use Rattle.run_files.specs.Files.{HasNamedPlan, Inputs, NamedMesh, facets_of}
@@ -18,14 +17,14 @@ use Rattle.run_files.specs.declared.words.Asked.{Asked}
 use Rattle.run_files.specs.declared.words.Task.{Task}
 use Rattle.run_files.specs.declared.words.Task.TheVariants as Tasks
 use Rattle.seq_io.specs.declared.mem_file.MemFile.{MemFile}
-use Rattle.seq_model.specs.Jobs.{no_part, scene_of_job}
+use Rattle.seq_model.specs.Jobs.{scene_of_job}
 use Rattle.seq_model.specs.Scenes.{Description, Valid, description_of, scene_of_files}
 use Rattle.seq_model.specs.declared.job.Job.{Job}
 use Rattle.seq_model.specs.declared.plan.Place.{Place}
 use Rattle.seq_model.specs.declared.plan.Plan.{Plan}
 use Rattle.seq_model.specs.declared.printer.Part.{Part}
 use Rattle.seq_run.specs.Planning.{CanWorkOn, HasPlanFor, PrintsFor, verdict_of}
-use Rattle.seq_run.specs.Printed.{Answers, IsGoodPlan, Prints, PrintsFault, PrintsGood, scene_of}
+use Rattle.seq_run.specs.Printed.{Answers, PrintsFault, PrintsGood, scene_of}
 use Rattle.seq_run.specs.declared.status.Verdict.{Verdict}
 use Rattle.seq_run.proofs.Audited.{same_verdict}
 

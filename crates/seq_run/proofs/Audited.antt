@@ -1,5 +1,5 @@
 -- Scenes that agree have the same first fault of a plan; and what an audit asks of a plan that was read.
-use Rattle.std.proofs.Common.{◌≡◌, ℕ, zero, suc, ◌+◌, ◌<◌, ◌≤◌, ◌^◌, ℤ, pos, ◌≤ℤ◌, ◌<ℤ◌, ◌⊎◌, inl, inr, unsigned_abs, List, [], ◌∷◌, length, get_or, All, Contains, Bool, true, false, Option, Some, None, refl, sym, ap, ◌∙◌, subst, arith}
+use Rattle.std.proofs.Common.{◌≡◌, ℕ, zero, suc, ◌+◌, ◌<◌, ◌≤◌, ◌^◌, ℤ, pos, ◌≤ℤ◌, ◌<ℤ◌, ◌⊎◌, inl, inr, unsigned_abs, List, [], ◌∷◌, length, All, Bool, true, false, Option, Some, None, refl, sym, ap, subst, arith}
 use Rattle.std.proofs.lemmas.Bool.{cases_lt}
 use Rattle.std.proofs.lemmas.Int.{ints, by_lt_z}
 use Rattle.std.proofs.lemmas.List.Elements.{All-nil, All-cons}
@@ -7,7 +7,7 @@ use Rattle.std.specs.List.{AllZip}
 use Rattle.std.specs.Prelude.{MatchOption, slice_index_or}
 use Rattle.integer_laws.specs.Members.{In}
 use Rattle.integer_laws.specs.Laws.Members.{All-from_in, All-in, Contains-from_in, In-from_contains}
-use Rattle.mesh_slices.specs.Agreement.{Agree, SameOutline, SamePart}
+use Rattle.mesh_slices.specs.Agreement.{Agree, SamePart}
 use Rattle.mesh_slices.specs.Laws.Agreeing.{agree_back, lies_in_back, overlap_back, same_region, valid_back}
 use Rattle.plan_audit.specs.Faults.{FirstAbsent, FirstHit, FirstOff, FirstStray, HasSpotOff, IsAbsent, IsHit, IsOff, IsStray, IsVerdict, ComesBefore, nth, part_of}
 use Rattle.plan_audit.specs.Firsts.{IsFirst, Less}

@@ -1,5 +1,5 @@
 -- What is answered of files that are told is so whatever else is said of them.
-use Rattle.std.proofs.Common.{◌≡◌, ℕ, List, Option, Some, refl, sym, ◌∙◌, subst}
+use Rattle.std.proofs.Common.{◌≡◌, ℕ, List, Some, sym, ◌∙◌, subst}
 use Rattle.run_files.specs.Files.{Inputs, facets_of}
 use Rattle.run_files.specs.Laws.Exact.{SameInputs, same_inputs}
 use Rattle.run_files.specs.declared.words.Asked.{Asked}
@@ -7,7 +7,7 @@ use Rattle.plan_text.specs.declared.file.PlanFile.{PlanFile}
 use Rattle.seq_io.specs.declared.mem_file.MemFile.{MemFile}
 use Rattle.seq_model.specs.Scenes.{Description, Valid, scene_of_files}
 use Rattle.seq_model.specs.declared.plan.Plan.{Plan}
-use Rattle.seq_run.specs.Printed.{Answers, IsGoodPlan, Prints, scene_of}
+use Rattle.seq_run.specs.Printed.{Answers, Prints, scene_of}
 use Rattle.seq_run.specs.Runs.{HasFault, HasNoPlan}
 use Rattle.seq_run.specs.declared.status.Verdict.TheVariants.{Done, Fault, NoPlan}
 

@@ -80,7 +80,12 @@ fn audit_file(alloc: Global, job: &Job, file: &PlanFile) -> Result<Printed, NoMe
 {
     let printer = &job.printer;
     let found = audit(job, printer.grid, &file.plan);
-    let text = audit_text(alloc, printer.parts.as_slice(), file.plan.places.as_slice(), found)?;
+    let text = audit_text(
+        alloc,
+        printer.parts.as_slice(),
+        file.plan.places.as_slice(),
+        found,
+    )?;
     Ok(Printed {
         verdict: verdict_of(found),
         text: Items::from_vec(text),

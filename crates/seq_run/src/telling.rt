@@ -96,7 +96,7 @@ pub fn deliver<O: Sink, E: Sink>(answer: &Answer, out: &mut O, err: &mut E) -> R
     ensures text { OnOk result (Wrote answer.now.text (O.shows out.old) (O.shows out.new)) }
     ensures broke { OnErr result (
         (BrokeIn answer.now.notes (E.shows err.old) (E.shows err.new) × (O.shows out.new
-            ≡ O.shows out.old))
+        ≡ O.shows out.old))
         ⊎ (Wrote answer.now.notes (E.shows err.old) (E.shows err.new)
         × BrokeIn answer.now.text (O.shows out.old) (O.shows out.new))) }
 {
