@@ -15,7 +15,7 @@ use Rattle.claim_checker.specs.declared.verdict.Fault.TheVariants as Faults
 use Rattle.seq_num.specs.Spelling.{spelling}
 use Rattle.text_lines.specs.Lines.{number_line}
 
-abbrev pub word_of : Rule → List ℕ
+unfoldable pub word_of : Rule → List ℕ
 word_of Rules.Pending = codes "pending"
 word_of Rules.Objects = codes "objects"
 word_of Rules.Contact = codes "contact"

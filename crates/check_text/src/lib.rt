@@ -4,7 +4,7 @@
 //! `specs/CheckText.antt` spells it. It stands on the judgement, and the top call prints by it.
 #![tactic(auto)]
 
-ghost use Rattle.std.specs.Prelude.{◌≡◌, ◌++◌, IfOk, OnOk};
+ghost use Rattle.std.specs.Prelude.{◌≡◌, ◌++◌, codes, IfOk, OnOk};
 ghost use Rattle.check_text.specs.CheckText.{check_text, node_line, word_of};
 
 use cert_checker::Rule;
@@ -12,6 +12,7 @@ use claim_checker::{Claim, Fault};
 use std::alloc::{AllocError, Global};
 use text_lines::{put_line, put_number};
 
+#[tactic(auto, unfolding(crate::specs::CheckText::word_of))]
 fn word_of(rule: Rule) -> &'static [u8]
     ensures { result.now ≡ word_of rule }
 {
@@ -28,15 +29,21 @@ fn word_of(rule: Rule) -> &'static [u8]
     }
 }
 
+fn put_word(to: &mut Vec<u8>, word: &[u8]) -> Result<(), AllocError>
+    ensures { OnOk result (to.new.items ≡ to.old.items ++ (codes " " ++ (word.now ++ codes "\n"))) }
+{
+    to.extend_from_slice(b" ")?;
+    to.extend_from_slice(word)?;
+    to.extend_from_slice(b"\n")
+}
+
 // Appends the line of a node that breaks a rule.
 #[tactic(auto, unfolding(crate::specs::CheckText::node_line))]
 fn put_node(to: &mut Vec<u8>, number: u64, rule: Rule) -> Result<(), AllocError>
     ensures { OnOk result (to.new.items ≡ to.old.items ++ node_line number rule) }
 {
     put_number(to, b"check fails node ", i128::from(number))?;
-    to.extend_from_slice(b" ")?;
-    to.extend_from_slice(word_of(rule))?;
-    to.extend_from_slice(b"\n")
+    put_word(to, word_of(rule))
 }
 
 /// The line of a judgement.
