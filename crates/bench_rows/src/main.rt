@@ -1,5 +1,6 @@
 //! Pivots dictionaries of 32 variables and 64 rows, makes dictionaries of 32 bounds, and solves a system of 32 bounds and
-//! 98 rows of four entries each. It prints what came of it, and on the error stream the time of a call;
+//! 98 rows of four entries each. It prints what came of it, and on the error stream the time of a
+//! call in the best of many rounds;
 //! `bench/pivots_of_64_rows` runs it. Nothing is promised here but that the calls may be made.
 #![tactic(auto)]
 
@@ -157,12 +158,11 @@ fn there_and_back(dictionary: &mut Dictionary, times: u32, leaving: u32, enterin
     made
 }
 
-fn report(rt: &HostRuntime, what: &str, count: u64, calls: u128, start: Instant) -> io::Result<()>
+fn report(rt: &HostRuntime, what: &str, count: u64, spent: u128, calls: u128) -> io::Result<()>
     requires { 0 < calls }
 {
-    let spent = start.elapsed(rt)?;
     println!(rt; "{what}: {count}")?;
-    eprintln!(rt; "{what}: {} ns a call", spent.as_nanos() / calls)
+    eprintln!(rt; "{what}: {} ns a call", spent / calls)
 }
 
 fn time_pivots(
@@ -172,9 +172,14 @@ fn time_pivots(
     leaving: u32,
     entering: u32,
 ) -> io::Result<()> {
-    let start = Instant::now(rt)?;
-    let made = there_and_back(dictionary, 5_000, leaving, entering);
-    report(rt, what, made, 10_000, start)
+    let mut least = u128::MAX;
+    let mut made = 0_u64;
+    for _ in 0..50 {
+        let start = Instant::now(rt)?;
+        made = made.wrapping_add(there_and_back(dictionary, 100, leaving, entering));
+        least = least.min(start.elapsed(rt)?.as_nanos());
+    }
+    report(rt, what, made, least, 200)
 }
 
 fn time_unit(rt: &HostRuntime, alloc: Global) -> io::Result<()> {
@@ -200,7 +205,7 @@ fn time_general(rt: &HostRuntime, alloc: Global) -> io::Result<()> {
 
 fn made_often(alloc: Global, rows: &[Row]) -> u64 {
     let mut made = 0_u64;
-    for _ in 0..10_000_u32 {
+    for _ in 0..200_u32 {
         if dictionary_of(alloc, rows).is_some() {
             made = made.wrapping_add(1);
         }
@@ -210,9 +215,14 @@ fn made_often(alloc: Global, rows: &[Row]) -> u64 {
 
 fn time_making(rt: &HostRuntime, alloc: Global) -> io::Result<()> {
     if let Ok(rows) = bounds(alloc) {
-        let start = Instant::now(rt)?;
-        let made = made_often(alloc, &rows);
-        report(rt, "dictionaries of 32 bounds", made, 10_000, start)?;
+        let mut least = u128::MAX;
+        let mut made = 0_u64;
+        for _ in 0..50 {
+            let start = Instant::now(rt)?;
+            made = made.wrapping_add(made_often(alloc, &rows));
+            least = least.min(start.elapsed(rt)?.as_nanos());
+        }
+        report(rt, "dictionaries of 32 bounds", made, least, 200)?;
     }
     Ok(())
 }
@@ -229,19 +239,16 @@ fn solved(alloc: Global, rows: &[Row]) -> u64 {
     }
 }
 
-fn solved_often(alloc: Global, rows: &[Row]) -> u64 {
-    let mut sum = 0_u64;
-    for _ in 0..100_u32 {
-        sum = sum.wrapping_add(solved(alloc, rows));
-    }
-    sum
-}
-
 fn time_solving(rt: &HostRuntime, alloc: Global) -> io::Result<()> {
     if let Ok(rows) = sides(alloc) {
-        let start = Instant::now(rt)?;
-        let sum = solved_often(alloc, &rows);
-        report(rt, "systems of 130 rows", sum, 100, start)?;
+        let mut least = u128::MAX;
+        let mut sum = 0_u64;
+        for _ in 0..100 {
+            let start = Instant::now(rt)?;
+            sum = sum.wrapping_add(solved(alloc, &rows));
+            least = least.min(start.elapsed(rt)?.as_nanos());
+        }
+        report(rt, "systems of 130 rows", sum, least, 1)?;
     }
     Ok(())
 }

@@ -162,10 +162,41 @@ fn large_files_are_read_or_too_long(rt: HostRuntime) -> Result<(), Fail> {
     see(&rt, rt.alloc(), &printer, &large, ARRANGE, (4, b"", line))
 }
 
+// Meshes at their limits and one past them, and the status, the text and the line.
+static LARGEST: [(Mesh, u8, &[u8], &[u8]); 4] = [
+    (Mesh::Wedges(25_000), 0, PLAN, b""),
+    (
+        Mesh::Wedges(25_001),
+        4,
+        b"",
+        b"input: a.stl: more than 200000 facets\n",
+    ),
+    (
+        Mesh::Spaces(67_108_864),
+        4,
+        b"",
+        b"input: a.stl: expected solid at 67108864\n",
+    ),
+    (
+        Mesh::Spaces(67_108_865),
+        4,
+        b"",
+        b"input: a.stl: longer than 67108864 bytes\n",
+    ),
+];
+
+#[test]
+fn the_largest_meshes_are_read(rt: HostRuntime) -> Result<(), Fail> {
+    for (mesh, status, text, line) in &LARGEST {
+        see(&rt, rt.alloc(), PLATE, mesh, ARRANGE, (*status, text, line))?;
+    }
+    Ok(())
+}
+
 const NO_MESH: &[&str] = &["arrange", "p0.toml"];
 
 // Words, calls of the shelf that fail, the status and the line on `err`.
-static RUNS: [(&[&str], &[u64], u8, &[u8]); 21] = [
+static RUNS: [(&[&str], &[u64], u8, &[u8]); 23] = [
     (&[], &[], 2, b"words: unknown command\n"),
     (
         &["arange", "p0.toml", "a.stl"],
@@ -209,7 +240,9 @@ static RUNS: [(&[&str], &[u64], u8, &[u8]); 21] = [
         b"words: more than 16 meshes\n",
     ),
     (&["check", "p", "q", "r"], &[], 2, b"words: not yet\n"),
-    (&["audit", "p", "q", "r"], &[], 2, b"words: not yet\n"),
+    (&["audit", "p", "q", "r"], &[], 3, b"read: p\n"),
+    (&["audit", "p0.toml", "q", "r"], &[], 3, b"read: q\n"),
+    (&["audit", "p0.toml", "q"], &[], 2, b"words: usage\n"),
     (&["slices", "p0.toml", "b.stl"], &[], 3, b"read: b.stl\n"),
     (&["trial", "1", "0"], &[], 2, b"words: not yet\n"),
     (

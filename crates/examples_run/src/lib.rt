@@ -8,6 +8,8 @@
 #[cfg(test)]
 mod arranging;
 #[cfg(test)]
+mod auditing;
+#[cfg(test)]
 mod describing;
 #[cfg(test)]
 mod meshes;

@@ -21,6 +21,10 @@ pub(crate) const UNEVEN: &[u8] =
 pub(crate) const PLAN: &[u8] =
     b"seqplan 1\nstate found\ngrid 100\nextent 100\nscale 1\nplace 0 1 1\n";
 
+/// The plate with a nozzle and a gantry.
+pub(crate) const WITH_PARTS: &[u8] =
+    b"format = 1\ngrain = 1\nplate = [100, 100]\nstep = 10\nmargin = 1\ngrid = 100\n\n[[part]]\nname = \"nozzle\"\nfrom = 0\ncorners = [[-2, -2], [2, -2], [2, 2], [-2, 2]]\n\n[[part]]\nname = \"gantry\"\nfrom = 20\nbar = \"x\"\nlow = -10\nhigh = 10\n";
+
 pub(crate) const ARRANGE: &[&str] = &["arrange", "p0.toml", "a.stl"];
 
 /// The numbers of the calls that fail: of the shelf, and of the writes of `out` and of `err`.
@@ -30,6 +34,12 @@ pub(crate) struct Failing {
     pub(crate) out: &'static [u64],
     pub(crate) err: &'static [u64],
 }
+
+const NONE: Failing = Failing {
+    reads: &[],
+    out: &[],
+    err: &[],
+};
 
 /// What comes of a run: its status, and what `out` and `err` took.
 pub(crate) type Seen<'a> = (u8, &'a [u8], &'a [u8]);
@@ -45,14 +55,17 @@ fn file(alloc: Global, name: &str, bytes: Vec<u8>) -> Result<MemFile, Fail> {
     Ok(MemFile::new(String::from_str(alloc, name)?, bytes))
 }
 
+// A printer `p0.toml`, a plan `plan.txt` and a mesh `a.stl`.
 fn shelf_of(
     alloc: Global,
     printer: &[u8],
+    plan: Vec<u8>,
     mesh: Vec<u8>,
     failing: &[u64],
 ) -> Result<MemShelf, Fail> {
     let mut files = Vec::new(alloc);
     files.push(file(alloc, "p0.toml", Vec::from_slice(alloc, printer)?)?)?;
+    files.push(file(alloc, "plan.txt", plan)?)?;
     files.push(file(alloc, "a.stl", mesh)?)?;
     Ok(MemShelf::new(files, 1 << 20, Vec::from_slice(alloc, failing)?))
 }
@@ -70,15 +83,16 @@ fn owned(alloc: Global, words: &[&str]) -> Result<Vec<String>, Fail> {
     Ok(own_words)
 }
 
-// Runs the words over a printer `p0.toml` and a mesh `a.stl` in memory.
+// Runs the words over these files in memory.
 fn run_in_memory(
     alloc: Global,
     printer: &[u8],
-    mesh: &Mesh,
+    plan: Vec<u8>,
+    mesh: Vec<u8>,
     words: &[&str],
     failing: Failing,
 ) -> Result<Outcome, Fail> {
-    let mut shelf = shelf_of(alloc, printer, file_of(alloc, mesh)?, failing.reads)?;
+    let mut shelf = shelf_of(alloc, printer, plan, mesh, failing.reads)?;
     let mut out = sink(alloc, failing.out)?;
     let mut err = sink(alloc, failing.err)?;
     let status = run(alloc, &owned(alloc, words)?, &mut shelf, &mut out, &mut err);
@@ -95,7 +109,24 @@ pub(crate) fn see_with_failures(
     failing: Failing,
     seen: Seen,
 ) -> Result<(), Fail> {
-    let done = run_in_memory(alloc, printer, mesh, words, failing)?;
+    let mesh = file_of(alloc, mesh)?;
+    let done = run_in_memory(alloc, printer, Vec::new(alloc), mesh, words, failing)?;
+    assert_eq!(rt; (done.status, done.out.taken(), done.err.taken()), seen);
+    Ok(())
+}
+
+/// The same over a plan and a mesh, where no call fails.
+pub(crate) fn see_plan(
+    rt: &impl Abort,
+    alloc: Global,
+    printer: &[u8],
+    plan: Vec<u8>,
+    mesh: &Mesh,
+    words: &[&str],
+    seen: Seen,
+) -> Result<(), Fail> {
+    let mesh = file_of(alloc, mesh)?;
+    let done = run_in_memory(alloc, printer, plan, mesh, words, NONE)?;
     assert_eq!(rt; (done.status, done.out.taken(), done.err.taken()), seen);
     Ok(())
 }
@@ -109,10 +140,5 @@ pub(crate) fn see(
     words: &[&str],
     seen: Seen,
 ) -> Result<(), Fail> {
-    let failing = Failing {
-        reads: &[],
-        out: &[],
-        err: &[],
-    };
-    see_with_failures(rt, alloc, printer, mesh, words, failing, seen)
+    see_with_failures(rt, alloc, printer, mesh, words, NONE, seen)
 }

@@ -1,10 +1,6 @@
 use crate::meshes::Mesh;
-use crate::runs::{FINE, PLATE, UNEVEN, see};
+use crate::runs::{FINE, PLATE, UNEVEN, WITH_PARTS, see};
 use std::test::Fail;
-
-// A nozzle and a gantry.
-const WITH_PARTS: &[u8] =
-    b"format = 1\ngrain = 1\nplate = [100, 100]\nstep = 10\nmargin = 1\ngrid = 100\n\n[[part]]\nname = \"nozzle\"\nfrom = 0\ncorners = [[-2, -2], [2, -2], [2, 2], [-2, 2]]\n\n[[part]]\nname = \"gantry\"\nfrom = 20\nbar = \"x\"\nlow = -10\nhigh = 10\n";
 
 const CUBE: &[u8] =
     b"slices 1\nheight 20\nbands 2\nzone 0 1 4\ncorner -1 -1\ncorner 21 -1\ncorner 21 21\ncorner -1 21\n";

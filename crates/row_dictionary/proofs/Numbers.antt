@@ -16,7 +16,6 @@ use Rattle.integer_laws.specs.Vectors.{combined}
 use Rattle.integer_laws.specs.Laws.Vectors.{get_or-combined, length-combined}
 use Rattle.row_laws.specs.Laws.OneForm.{any_default}
 use Rattle.row_pivots.specs.Ends.{Small}
-use Rattle.row_pivots.specs.Turns.{quotients}
 use Rattle.row_dictionary.specs.Mixing.{mixed, mixed_numbers, mixed_line, IsCommon}
 use Rattle.row_dictionary.specs.declared.number.Mix.{Mix}
 

@@ -12,7 +12,7 @@ use Rattle.integer_laws.specs.Laws.Ring.{expand}
 use Rattle.row_laws.specs.Laws.Independence.{past_the_end}
 use Rattle.row_laws.specs.Laws.Kernel.{cancel_factor}
 use Rattle.row_laws.specs.Laws.OneForm.{list_same}
-use Rattle.row_dictionary.specs.Mixing.{mixed, mixed_line}
+use Rattle.row_dictionary.specs.Mixing.{mixed}
 use Rattle.row_dictionary.specs.Tables.{mix_of, step_line}
 use Rattle.row_dictionary.specs.declared.number.Mix.{Mix}
 use Rattle.row_dictionary.specs.declared.table.Step.{Step}

@@ -1,5 +1,5 @@
 -- What a pivot in place does to a table over rows.
-use Rattle.std.proofs.Common.{◌≡◌, ◌≢◌, ℕ, zero, suc, ◌+◌, ◌<◌, ◌≤◌, List, [], ◌∷◌, ◌++◌, take, length, map, get_or, set, All, refl, ap, sym, subst, ◌∙◌, arith, ℤ, pos, int_div, inl, inr, Some, length-set}
+use Rattle.std.proofs.Common.{◌≡◌, ℕ, zero, suc, ◌+◌, ◌<◌, ◌≤◌, List, [], ◌∷◌, ◌++◌, take, length, map, get_or, All, refl, ap, sym, subst, arith, ℤ, int_div, inl, inr}
 use Rattle.std.proofs.lemmas.List.{length-map}
 use Rattle.integer_laws.specs.Members.{In}
 use Rattle.row_laws.specs.Laws.Lines.{member}

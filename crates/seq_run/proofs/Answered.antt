@@ -1,72 +1,112 @@
 -- What the parts of a run give is an answer over its files.
-use Rattle.std.proofs.Common.{◌≡◌, ℕ, Bool, List, [], ◌∷◌, length, get_or, slice_get, Option, refl, sym, ap, subst, arith, append-nil}
-use Rattle.mesh_slices.specs.Objects.{CanBeSliced, IsObjectOf}
-use Rattle.seq_io.specs.declared.mem_file.MemFile.{MemFile}
-use Rattle.seq_model.specs.Scenes.{Description}
-use Rattle.seq_model.specs.declared.job.Job.{Job}
-use Rattle.seq_model.specs.declared.job.Object.{Object}
-use Rattle.seq_model.specs.declared.mesh.Facet.{Facet}
-use Rattle.seq_model.specs.declared.printer.Printer.{Printer}
-use Rattle.seq_run.specs.Files.{IsMeshFile, IsPrinterFor, IsPrinterOf, IsUsableMesh, PassesStrict, mesh_of, name_in, name_or}
-use Rattle.seq_run.specs.Printed.{Answers, ArrangesJob, AreNotesFor, IsNoteFor, IsObjectFor, PrintsFor}
-use Rattle.seq_run.specs.Words.{is_strict}
-use Rattle.seq_run.specs.declared.status.Verdict.{Verdict}
-use Rattle.seq_run.specs.declared.stop.NamedFile.TheVariants.{Mesh}
-use Rattle.seq_run.specs.declared.words.Asked.{Asked}
-use Rattle.seq_run.specs.declared.words.Task.{Task}
-use Rattle.seq_run.specs.declared.words.Task.TheVariants as Tasks
+use Rattle.std.proofs.Common.{◌≡◌, ℕ, zero, suc, List, [], ◌∷◌, length, Option, Some, None, refl, sym, ap, ◌∙◌, subst}
 use Rattle.std.specs.List.{AllZip}
+use Rattle.audit_text.specs.AuditText.{audit_text, hit_line, name_of, object_of}
+use Rattle.mesh_slices.specs.Laws.AgreeingJobs.{agree_with_job}
+use Rattle.mesh_slices.specs.Laws.Agreeing.{agree_back}
+use Rattle.plan_audit.specs.Faults.{IsVerdict}
+use Rattle.plan_audit.specs.declared.verdict.Verdict.{Verdict as Audit}
+use Rattle.plan_audit.specs.declared.verdict.Verdict.TheVariants as Audits
+use Rattle.plan_text.specs.declared.file.PlanFile.{PlanFile}
+use Rattle.printer_text.specs.Printers.{AreKept}
+use Rattle.run_files.specs.Files.{HasNamedPlan, Inputs, NamedMesh, facets_of}
+use Rattle.run_files.specs.Jobs.{IsJobOf, IsLoaded}
+use Rattle.run_files.specs.Laws.Made.{made_from, same_plans}
+use Rattle.run_files.specs.Words.{IsManyFor, IsRequest, NamesPlan}
+use Rattle.run_files.specs.declared.words.Asked.{Asked}
+use Rattle.run_files.specs.declared.words.Task.{Task}
+use Rattle.run_files.specs.declared.words.Task.TheVariants as Tasks
+use Rattle.seq_io.specs.declared.mem_file.MemFile.{MemFile}
+use Rattle.seq_model.specs.Jobs.{scene_of_job}
+use Rattle.seq_model.specs.Scenes.{Description, Valid, description_of, scene_of_files}
+use Rattle.seq_model.specs.declared.job.Job.{Job}
+use Rattle.seq_model.specs.declared.plan.Place.{Place}
+use Rattle.seq_model.specs.declared.plan.Plan.{Plan}
+use Rattle.seq_model.specs.declared.printer.Part.{Part}
+use Rattle.seq_run.specs.Planning.{CanWorkOn, HasPlanFor, PrintsFor, verdict_of}
+use Rattle.seq_run.specs.Printed.{Answers, PrintsFault, PrintsGood, scene_of}
+use Rattle.seq_run.specs.declared.status.Verdict.{Verdict}
+use Rattle.seq_run.proofs.Audited.{same_verdict}
 
--- the only one of a list
-pub one_object : (objects slice : List Object) (object : Object) → slice ≡ objects → length objects ≡ 1 → object ≡ get_or slice 0 object → objects ≡ object ∷ []
-one_object objects slice object same n e = by objects n (subst (λ xs. object ≡ get_or xs 0 object) same e)
-  where
-    by : (xs : List Object) → length xs ≡ 1 → object ≡ get_or xs 0 object → xs ≡ object ∷ []
-    by [] n e = absurd (omega (arith, n))
-    by (o ∷ []) n e = ap (λ x. x ∷ []) (sym e)
-    by (o ∷ p ∷ os) n e = absurd (omega (arith, n))
+-- ---- the text of an audit
+name_kept : (parts keeps : List Part) → AreKept parts keeps → (k : ℕ) → name_of keeps k ≡ name_of parts k
+name_kept [] [] z k = refl
+name_kept [] (x ∷ keeps) z k = absurd z
+name_kept (p ∷ parts) [] z k = absurd z
+name_kept (p ∷ parts) (x ∷ keeps) z zero = z.0.name
+name_kept (p ∷ parts) (x ∷ keeps) z (suc k) = name_kept parts keeps z.1 k
 
--- the job that is made of a printer and an object is that of its description and its mesh
-pub arranges : (strict : Bool) (printer : Printer) (name : List ℕ) (facets : List Facet) (dropped : ℕ) (job : Job) (object : Object) (verdict : Verdict) (text : List ℕ) → job.printer ≡ printer → job.objects ≡ object ∷ []
-    → IsObjectOf name facets printer object → ArrangesJob job verdict text → PrintsFor (Tasks.Arrange strict) printer (mesh_of name facets dropped ∷ []) verdict text
-arranges strict printer name facets dropped job object verdict text same one is a =
-    let m = mesh_of name facets dropped in
-    let there : IsObjectFor job.printer m object = subst (λ p. IsObjectOf name facets p object) (sym same) is in
-    record {
-      each = λ d fits. a.each strict d (m ∷ []) (record {
-        printer = subst (IsPrinterFor d) (sym same) fits;
-        objects = subst (AllZip (IsObjectFor job.printer) (m ∷ [])) (sym one) (there, tt);
-      });
-    }
+text_kept : (parts keeps : List Part) → AreKept parts keeps → (places : List Place) (v : Audit) → audit_text keeps places v ≡ audit_text parts places v
+text_kept parts keeps z places Audits.Good = refl
+text_kept parts keeps z places (Audits.Stray k) = refl
+text_kept parts keeps z places (Audits.Absent o) = refl
+text_kept parts keeps z places (Audits.OffPlate k) = refl
+text_kept parts keeps z places (Audits.Collides h) = subst (λ n. audit_text keeps places (Audits.Collides h) ≡ hit_line (object_of places h.earlier) (object_of places h.later) h.c h.b h.part n) (name_kept parts keeps z h.part) refl
 
--- the only one of the names is the first
-pub only_name : (names : List (List ℕ)) → length names ≡ 1 → names ≡ name_or (slice_get names 0) ∷ []
-only_name [] n = absurd (omega (arith, n))
-only_name (x ∷ []) n = refl
-only_name (x ∷ y ∷ xs) n = absurd (omega (arith, n))
+-- the verdict of the job is that of the scene of its files
+verdict_of_files : (d : Description) (meshes : List NamedMesh) (job : Job) → IsJobOf d meshes job → (e : ℕ) (plan : Plan) (v : Audit) → IsVerdict (scene_of_job job) e plan v → IsVerdict (scene_of_files d (facets_of meshes)) e plan v
+verdict_of_files d meshes job j e plan v is =
+    let files = scene_of_files (description_of job.printer d.parts) (facets_of meshes) in
+    let agree = agree_with_job d.parts (facets_of meshes) job (made_from d meshes job j) in
+    subst (λ (x : Description). IsVerdict (scene_of_files x (facets_of meshes)) e plan v) j.printer.numbers
+    (same_verdict (scene_of_job job) files (agree_back files (scene_of_job job) agree) e plan v is)
 
--- a note of one mesh is all its notes
-pub one_note : (task : Task) (name : List ℕ) (facets : List Facet) (dropped : ℕ) (notes : List ℕ) → IsNoteFor task name facets dropped notes → AreNotesFor task (mesh_of name facets dropped ∷ []) notes
-one_note (Tasks.Arrange strict) name facets dropped notes note = record { first = notes; rest = []; is = sym (append-nil notes); note = note; others = refl }
-one_note Tasks.Slices name facets dropped notes note = note
+module _ (job : Job) (file : PlanFile) (v : Audit) (text : List ℕ) (is_verdict : IsVerdict (scene_of_job job) job.printer.grid file.plan v)
+    (is : text ≡ audit_text job.printer.parts file.plan.places v) (inputs : Inputs) (j : IsJobOf inputs.description inputs.meshes job) (named : inputs.plan ≡ Some file) where
+  grid : job.printer.grid ≡ inputs.description.grid
+  grid = ap (λ (x : Description). x.grid) j.printer.numbers
 
-pub answered : (files : Option (List MemFile)) (a : Asked) (printer : Printer) (facets : List Facet) (dropped : ℕ) (verdict : Verdict) (notes text : List ℕ) → length a.meshes ≡ 1
-    → IsPrinterOf files a.printer printer → IsMeshFile files (name_in a (Mesh 0)) facets dropped → PrintsFor a.task printer (mesh_of (name_in a (Mesh 0)) facets dropped ∷ []) verdict text
-    → IsNoteFor a.task (name_in a (Mesh 0)) facets dropped notes → PassesStrict (is_strict a.task) facets → CanBeSliced facets printer.step → Answers files a verdict notes text
-answered files a printer facets dropped verdict notes text one p is prints note passes slices =
-    let d = p.description in
-    let name = name_in a (Mesh 0) in
-    let m = mesh_of name facets dropped in
-    let usable : IsUsableMesh files (is_strict a.task) d.step name m = record {
-      named = refl;
-      is = is;
-      passes = passes;
-      slices = subst (λ (e : Description). CanBeSliced facets e.step) p.fits.numbers slices;
-    } in
-    record {
-      description = d;
-      meshes = m ∷ [];
-      usable = record { printer = p.is; each = subst (λ names. AllZip (IsUsableMesh files (is_strict a.task) d.step) names (m ∷ [])) (sym (only_name a.meshes one)) (usable, tt) };
-      prints = prints.each d p.fits;
-      note = one_note a.task name facets dropped notes note;
-    }
+  verdict : IsVerdict (scene_of inputs) inputs.description.grid file.plan v
+  verdict = subst (λ n. IsVerdict (scene_of inputs) n file.plan v) grid (verdict_of_files inputs.description inputs.meshes job j job.printer.grid file.plan v is_verdict)
+
+  written : text ≡ audit_text inputs.description.parts file.plan.places v
+  written = is ∙ text_kept inputs.description.parts job.printer.parts j.printer.parts file.plan.places v
+
+  pub faulty : (Valid (scene_of_job job) job.printer.grid file.plan → ⊥) → PrintsFault inputs text
+  faulty bad = record {
+    file = file;
+    named = named;
+    not_good = λ good. bad ((same_plans inputs.description inputs.meshes job j job.printer.grid file.plan).0 (subst (λ n. Valid (scene_of inputs) n file.plan) (sym grid) good));
+    fault = v;
+    first = verdict;
+    is = written;
+  }
+
+  pub fine : v ≡ Audits.Good → PrintsGood inputs text
+  fine e = record {
+    file = file;
+    named = named;
+    good = subst (IsVerdict (scene_of inputs) inputs.description.grid file.plan) e verdict;
+    is = subst (λ x. text ≡ audit_text inputs.description.parts file.plan.places x) e written;
+  }
+
+pub audit_for : (job : Job) (file : PlanFile) (v : Audit) (text : List ℕ) → IsVerdict (scene_of_job job) job.printer.grid file.plan v → (Valid (scene_of_job job) job.printer.grid file.plan → v ≡ Audits.Good)
+    → text ≡ audit_text job.printer.parts file.plan.places v → PrintsFor Tasks.Audit job (Some file) (verdict_of v) text
+audit_for job file Audits.Good text x good is = record { each = λ inputs j named. fine job file Audits.Good text x is inputs j named refl }
+audit_for job file (Audits.Stray k) text x good is = record { each = λ inputs j named. faulty job file (Audits.Stray k) text x is inputs j named (λ valid. absurd (cc (good valid))) }
+audit_for job file (Audits.Absent o) text x good is = record { each = λ inputs j named. faulty job file (Audits.Absent o) text x is inputs j named (λ valid. absurd (cc (good valid))) }
+audit_for job file (Audits.OffPlate k) text x good is = record { each = λ inputs j named. faulty job file (Audits.OffPlate k) text x is inputs j named (λ valid. absurd (cc (good valid))) }
+audit_for job file (Audits.Collides h) text x good is = record { each = λ inputs j named. faulty job file (Audits.Collides h) text x is inputs j named (λ valid. absurd (cc (good valid))) }
+
+-- ---- what was loaded can be worked on
+long : {A B : Type 0} (R : A → B → Type 0) (xs : List A) (ys : List B) → AllZip R xs ys → length xs ≡ length ys
+long R [] [] z = refl
+long R [] (b ∷ ys) z = absurd z
+long R (a ∷ xs) [] z = absurd z
+long R (a ∷ xs) (b ∷ ys) z = ap suc (long R xs ys z.1)
+
+plan_for : (files : Option (List MemFile)) (task : Task) (named : Option (List ℕ)) (plan : Option PlanFile) → NamesPlan task named → HasNamedPlan files named plan → HasPlanFor task plan
+plan_for files (Tasks.Arrange strict) named plan n h = tt
+plan_for files Tasks.Slices named plan n h = tt
+plan_for files Tasks.Audit None plan n h = absurd (cc n)
+plan_for files Tasks.Audit (Some name) None n h = absurd h
+plan_for files Tasks.Audit (Some name) (Some plan) n h = h.is.spelled
+
+pub can_work_on : (files : Option (List MemFile)) (a : Asked) (job : Job) (plan : Option PlanFile) (notes : List ℕ) → IsRequest a → IsLoaded files a job plan notes → CanWorkOn a.task job plan
+can_work_on files a job plan notes r l = record {
+  many = subst (IsManyFor a.task) (long _ a.meshes l.inputs.meshes l.usable.each ∙ long _ l.inputs.meshes job.objects l.is_job.objects) r.many;
+  has_plan = subst (HasPlanFor a.task) (sym l.is_plan) (plan_for files a.task a.plan l.inputs.plan r.plan l.usable.plan);
+}
+
+pub answered : (files : Option (List MemFile)) (a : Asked) (job : Job) (plan : Option PlanFile) (notes text : List ℕ) (verdict : Verdict) → IsLoaded files a job plan notes → PrintsFor a.task job plan verdict text → Answers files a verdict notes text
+answered files a job plan notes text verdict l p = record { inputs = l.inputs; usable = l.usable; prints = p.each l.inputs l.is_job (sym l.is_plan); note = l.are_notes }

@@ -3,21 +3,23 @@ use Rattle.std.proofs.Common.{◌≡◌, ◌⊎◌, ℕ, zero, suc, List, [], �
 use Rattle.seq_io.specs.Taken.{Wrote}
 use Rattle.seq_io.specs.Views.{ShelfView, SinkView}
 use Rattle.seq_io.specs.declared.mem_file.MemFile.{MemFile}
-use Rattle.seq_run.specs.Causes.{Refuses}
-use Rattle.seq_run.specs.Messages.{line_of}
+use Rattle.run_files.specs.Causes.{Refuses}
+use Rattle.run_lines.specs.Messages.{line_of}
 use Rattle.seq_run.specs.Printed.{Answers}
-use Rattle.seq_run.specs.Runs.{AskedEnds, Ends, HasNoPlan, IsUsable}
+use Rattle.seq_run.specs.Runs.{AskedEnds, Ends, HasFault, HasNoPlan, IsUsable}
 use Rattle.seq_run.specs.Statuses.{IsOneOf, code_of, status_of}
-use Rattle.seq_run.specs.Stops.{Explains, IsUntouched, WantsMemory}
-use Rattle.seq_run.specs.Words.{Asks, requested}
+use Rattle.run_files.specs.Stops.{Explains, IsUntouched, WantsMemory}
+use Rattle.run_files.specs.Words.{Asks, requested}
 use Rattle.seq_run.specs.declared.status.Status.{Status}
 use Rattle.seq_run.specs.declared.status.Status.TheVariants.{Answered, WrongWords, ReadFault, WrongFile, WriteFault, NoMemory}
-use Rattle.seq_run.specs.declared.status.Verdict.TheVariants.{Done, NoPlan}
-use Rattle.seq_run.specs.declared.stop.Stop.{Stop}
-use Rattle.seq_run.specs.declared.stop.Stop.TheVariants.{Read, Input, Memory}
-use Rattle.seq_run.specs.declared.words.Asked.{Asked}
-use Rattle.seq_run.specs.declared.words.Misworded.{Misworded}
-use Rattle.seq_run.proofs.Exact.{found_plan-one, refused_files-unusable}
+use Rattle.seq_run.specs.declared.status.Verdict.{Verdict}
+use Rattle.seq_run.specs.declared.status.Verdict.TheVariants.{Done, Fault, NoPlan}
+use Rattle.run_files.specs.declared.stop.Stop.{Stop}
+use Rattle.run_files.specs.declared.stop.Stop.TheVariants.{Read, Input, Memory}
+use Rattle.run_files.specs.declared.words.Asked.{Asked}
+use Rattle.run_files.specs.declared.words.Misworded.{Misworded}
+use Rattle.run_files.specs.Laws.Exact.{refused_files-unusable}
+use Rattle.seq_run.proofs.Found.{arranged_fault, audited_none, found_plan-one, good_plan-one}
 
 -- the status of a number
 abbrev pub status_at : ℕ → Status
@@ -26,12 +28,14 @@ status_at (suc zero) = Answered NoPlan
 status_at (suc (suc zero)) = WrongWords
 status_at (suc (suc (suc zero))) = ReadFault
 status_at (suc (suc (suc (suc zero)))) = WrongFile
+status_at (suc (suc (suc (suc (suc (suc (suc zero))))))) = Answered Fault
 status_at (suc (suc (suc (suc (suc (suc (suc (suc zero)))))))) = WriteFault
 status_at n = NoMemory
 
 status_at-code : (s : Status) → status_at (code_of s) ≡ s
 status_at-code (Answered Done) = refl
 status_at-code (Answered NoPlan) = refl
+status_at-code (Answered Fault) = refl
 status_at-code WrongWords = refl
 status_at-code ReadFault = refl
 status_at-code WrongFile = refl
@@ -43,14 +47,15 @@ pub at_number : (P : Status → Type 0) (s : Status) (r n : ℕ) → r ≡ code_
 at_number P s r n code is h = subst P (sym (ap status_at (sym is ∙ code) ∙ status_at-code s)) h
 
 -- the numbers that a run may end with
-pub ends_once : (s : Status) → IsOneOf (0 ∷ 1 ∷ 2 ∷ 3 ∷ 4 ∷ 8 ∷ 9 ∷ []) (code_of s)
+pub ends_once : (s : Status) → IsOneOf (0 ∷ 1 ∷ 2 ∷ 3 ∷ 4 ∷ 7 ∷ 8 ∷ 9 ∷ []) (code_of s)
 ends_once (Answered Done) = inl refl
 ends_once (Answered NoPlan) = inr (inl refl)
 ends_once WrongWords = inr (inr (inl refl))
 ends_once ReadFault = inr (inr (inr (inl refl)))
 ends_once WrongFile = inr (inr (inr (inr (inl refl))))
-ends_once WriteFault = inr (inr (inr (inr (inr (inl refl)))))
-ends_once NoMemory = inr (inr (inr (inr (inr (inr refl)))))
+ends_once (Answered Fault) = inr (inr (inr (inr (inr (inl refl)))))
+ends_once WriteFault = inr (inr (inr (inr (inr (inr (inl refl))))))
+ends_once NoMemory = inr (inr (inr (inr (inr (inr (inr refl))))))
 
 -- what the words ask for is one thing
 asked-one : (r : Result Asked Misworded) (a b : Asked) → r ≡ Ok a → r ≡ Ok b → b ≡ a
@@ -61,7 +66,13 @@ refused-asked (Ok b) a h e = absurd (cc h)
 refused-asked (Err why) a h e = absurd (cc e)
 
 usable : (files : Option (List MemFile)) (a : Asked) → HasNoPlan files a → IsUsable files a
-usable files a n = record { description = n.description; meshes = n.meshes; usable = n.usable }
+usable files a n = record { inputs = n.inputs; usable = n.usable }
+
+faulty : (files : Option (List MemFile)) (a : Asked) → HasFault files a → IsUsable files a
+faulty files a n = record { inputs = n.inputs; usable = n.usable }
+
+accepted-refused : (r : Result Asked Misworded) (a : Asked) (why : Misworded) → r ≡ Ok a → r ≡ Err why → ⊥
+accepted-refused r a why p q = (let same : Ok a ≡ Err why = sym p ∙ q in absurd cc)
 
 module _ (words : List (List ℕ)) (s s' : ShelfView) (e e' o o' : SinkView) where
   abbrev pub E : Status → Type 0
@@ -70,33 +81,56 @@ module _ (words : List (List ℕ)) (s s' : ShelfView) (e e' o o' : SinkView) whe
   pub words_always : (status : Status) → E status → IsErr (requested words) → IsOneOf (2 ∷ 8 ∷ 9 ∷ []) (code_of status)
   words_always (Answered Done) x h = absurd (refused-asked (requested words) x.asked h x.accepted)
   words_always (Answered NoPlan) x h = absurd (refused-asked (requested words) x.asked h x.accepted)
+  words_always (Answered Fault) x h = absurd (refused-asked (requested words) x.asked h x.accepted)
   words_always WrongWords x h = inl refl
   words_always ReadFault x h = absurd (refused-asked (requested words) x.0.asked h x.0.accepted)
   words_always WrongFile x h = absurd (refused-asked (requested words) x.0.asked h x.0.accepted)
   words_always WriteFault x h = inr (inl refl)
   words_always NoMemory x h = inr (inr refl)
 
+  -- whoever needs the files can't have refused one of them
+  not_refused : (files : List MemFile) → s.files ≡ Some files → E WrongFile → Asks words (IsUsable (Some files)) → ⊥
+  not_refused files told x u =
+      let same = asked-one (requested words) x.0.asked u.asked x.0.accepted u.accepted in
+      let there = subst (λ fs. Refuses fs x.0.asked x.0.so.file x.0.so.cause) told x.0.so.refused.refused in
+      let now = subst (IsUsable (Some files)) same u.so in
+      refused_files-unusable files x.0.asked now.inputs x.0.so.file x.0.so.cause there now.usable
+
+  answers_told : (verdict : Verdict) (files : List MemFile) → s.files ≡ Some files → (x : E (Answered verdict)) → Answers (Some files) x.asked verdict x.so.notes x.so.text
+  answers_told verdict files told x = subst (λ fs. Answers fs x.asked verdict x.so.notes x.so.text) told x.so.answers
+
   pub none_always : (status : Status) → E status → (files : List MemFile) → s.files ≡ Some files → Asks words (HasNoPlan (Some files)) → IsOneOf (1 ∷ 3 ∷ 8 ∷ 9 ∷ []) (code_of status)
   none_always (Answered Done) x files told n =
       let same = asked-one (requested words) x.asked n.asked x.accepted n.accepted in
-      let there = subst (λ fs. Answers fs x.asked Done x.so.notes x.so.text) told x.so.answers in
-      absurd (found_plan-one files x.asked x.so.notes x.so.text there (subst (HasNoPlan (Some files)) same n.so))
+      absurd (found_plan-one files x.asked x.so.notes x.so.text (answers_told Done files told x) (subst (HasNoPlan (Some files)) same n.so))
   none_always (Answered NoPlan) x files told n = inl refl
+  none_always (Answered Fault) x files told n =
+      let same = asked-one (requested words) x.asked n.asked x.accepted n.accepted in
+      absurd (arranged_fault files x.asked x.so.notes x.so.text (answers_told Fault files told x) (subst (HasNoPlan (Some files)) same n.so))
   none_always WrongWords x files told n = absurd (accepted-refused (requested words) n.asked x.0.why n.accepted x.0.refused)
-    where
-      accepted-refused : (r : Result Asked Misworded) (a : Asked) (why : Misworded) → r ≡ Ok a → r ≡ Err why → ⊥
-      accepted-refused r a why p q = (let same : Ok a ≡ Err why = sym p ∙ q in absurd cc)
   none_always ReadFault x files told n = inr (inl refl)
-  none_always WrongFile x files told n =
-      let same = asked-one (requested words) x.0.asked n.asked x.0.accepted n.accepted in
-      let there = subst (λ fs. Refuses fs x.0.asked x.0.so.file x.0.so.cause) told x.0.so.refused.refused in
-      absurd (refused_files-unusable files x.0.asked x.0.so.file x.0.so.cause there (usable (Some files) x.0.asked (subst (HasNoPlan (Some files)) same n.so)))
+  none_always WrongFile x files told n = absurd (not_refused files told x (record { asked = n.asked; accepted = n.accepted; so = usable (Some files) n.asked n.so }))
   none_always WriteFault x files told n = inr (inr (inl refl))
   none_always NoMemory x files told n = inr (inr (inr refl))
 
+  pub fault_always : (status : Status) → E status → (files : List MemFile) → s.files ≡ Some files → Asks words (HasFault (Some files)) → IsOneOf (3 ∷ 7 ∷ 8 ∷ 9 ∷ []) (code_of status)
+  fault_always (Answered Done) x files told n =
+      let same = asked-one (requested words) x.asked n.asked x.accepted n.accepted in
+      absurd (good_plan-one files x.asked x.so.notes x.so.text (answers_told Done files told x) (subst (HasFault (Some files)) same n.so))
+  fault_always (Answered NoPlan) x files told n =
+      let same = asked-one (requested words) x.asked n.asked x.accepted n.accepted in
+      absurd (audited_none files x.asked x.so.notes x.so.text (answers_told NoPlan files told x) (subst (HasFault (Some files)) same n.so))
+  fault_always (Answered Fault) x files told n = inr (inl refl)
+  fault_always WrongWords x files told n = absurd (accepted-refused (requested words) n.asked x.0.why n.accepted x.0.refused)
+  fault_always ReadFault x files told n = inl refl
+  fault_always WrongFile x files told n = absurd (not_refused files told x (record { asked = n.asked; accepted = n.accepted; so = faulty (Some files) n.asked n.so }))
+  fault_always WriteFault x files told n = inr (inr (inl refl))
+  fault_always NoMemory x files told n = inr (inr (inr refl))
+
   pub input_always : (status : Status) → E status → (Asks words (IsUsable s.files) → ⊥) → IsOneOf (2 ∷ 3 ∷ 4 ∷ 8 ∷ 9 ∷ []) (code_of status)
-  input_always (Answered Done) x h = absurd (h (record { asked = x.asked; accepted = x.accepted; so = record { description = x.so.answers.description; meshes = x.so.answers.meshes; usable = x.so.answers.usable } }))
-  input_always (Answered NoPlan) x h = absurd (h (record { asked = x.asked; accepted = x.accepted; so = record { description = x.so.answers.description; meshes = x.so.answers.meshes; usable = x.so.answers.usable } }))
+  input_always (Answered Done) x h = absurd (h (record { asked = x.asked; accepted = x.accepted; so = record { inputs = x.so.answers.inputs; usable = x.so.answers.usable } }))
+  input_always (Answered NoPlan) x h = absurd (h (record { asked = x.asked; accepted = x.accepted; so = record { inputs = x.so.answers.inputs; usable = x.so.answers.usable } }))
+  input_always (Answered Fault) x h = absurd (h (record { asked = x.asked; accepted = x.accepted; so = record { inputs = x.so.answers.inputs; usable = x.so.answers.usable } }))
   input_always WrongWords x h = inl refl
   input_always ReadFault x h = inr (inl refl)
   input_always WrongFile x h = inr (inr (inl refl))
@@ -104,19 +138,17 @@ module _ (words : List (List ℕ)) (s s' : ShelfView) (e e' o o' : SinkView) whe
   input_always NoMemory x h = inr (inr (inr (inr refl)))
 
   pub input_only : (files : List MemFile) → s.files ≡ Some files → E WrongFile → Asks words (IsUsable (Some files)) → ⊥
-  input_only files told x u =
-      let same = asked-one (requested words) x.0.asked u.asked x.0.accepted u.accepted in
-      let there = subst (λ fs. Refuses fs x.0.asked x.0.so.file x.0.so.cause) told x.0.so.refused.refused in
-      refused_files-unusable files x.0.asked x.0.so.file x.0.so.cause there (subst (IsUsable (Some files)) same u.so)
+  input_only files told x u = not_refused files told x u
 
   -- by the number: the counts of the sinks, and `out`, and the count of the shelf are as before
-  pub err_calm : (n : ℕ) → ((m : ℕ) → n ≡ m → E (status_at m)) → IsOneOf (0 ∷ 1 ∷ 2 ∷ 3 ∷ 4 ∷ 9 ∷ []) n → e'.faults ≡ e.faults
+  pub err_calm : (n : ℕ) → ((m : ℕ) → n ≡ m → E (status_at m)) → IsOneOf (0 ∷ 1 ∷ 2 ∷ 3 ∷ 4 ∷ 7 ∷ 9 ∷ []) n → e'.faults ≡ e.faults
   err_calm n x (inl h) = (x 0 h).so.err.calm
   err_calm n x (inr (inl h)) = (x 1 h).so.err.calm
   err_calm n x (inr (inr (inl h))) = (x 2 h).0.err.calm
   err_calm n x (inr (inr (inr (inl h)))) = (x 3 h).0.so.err.calm
   err_calm n x (inr (inr (inr (inr (inl h))))) = (x 4 h).0.so.err.calm
-  err_calm n x (inr (inr (inr (inr (inr h))))) = (x 9 h).0.err.calm
+  err_calm n x (inr (inr (inr (inr (inr (inl h)))))) = (x 7 h).so.err.calm
+  err_calm n x (inr (inr (inr (inr (inr (inr h)))))) = (x 9 h).0.err.calm
 
   pub silent : (n : ℕ) → ((m : ℕ) → n ≡ m → E (status_at m)) → IsOneOf (2 ∷ 3 ∷ 4 ∷ 9 ∷ []) n → o' ≡ o
   silent n x (inl h) = (x 2 h).1
@@ -124,17 +156,22 @@ module _ (words : List (List ℕ)) (s s' : ShelfView) (e e' o o' : SinkView) whe
   silent n x (inr (inr (inl h))) = (x 4 h).1
   silent n x (inr (inr (inr h))) = (x 9 h).1
 
-  pub out_calm : (n : ℕ) → ((m : ℕ) → n ≡ m → E (status_at m)) → IsOneOf (0 ∷ 1 ∷ 2 ∷ 3 ∷ 4 ∷ 9 ∷ []) n → o'.faults ≡ o.faults
+  pub out_calm : (n : ℕ) → ((m : ℕ) → n ≡ m → E (status_at m)) → IsOneOf (0 ∷ 1 ∷ 2 ∷ 3 ∷ 4 ∷ 7 ∷ 9 ∷ []) n → o'.faults ≡ o.faults
   out_calm n x (inl h) = (x 0 h).so.out.calm
   out_calm n x (inr (inl h)) = (x 1 h).so.out.calm
-  out_calm n x (inr (inr h)) = ap (λ (v : SinkView). v.faults) (silent n x h)
+  out_calm n x (inr (inr (inl h))) = ap (λ (v : SinkView). v.faults) (silent n x (inl h))
+  out_calm n x (inr (inr (inr (inl h)))) = ap (λ (v : SinkView). v.faults) (silent n x (inr (inl h)))
+  out_calm n x (inr (inr (inr (inr (inl h))))) = ap (λ (v : SinkView). v.faults) (silent n x (inr (inr (inl h))))
+  out_calm n x (inr (inr (inr (inr (inr (inl h)))))) = (x 7 h).so.out.calm
+  out_calm n x (inr (inr (inr (inr (inr (inr h)))))) = ap (λ (v : SinkView). v.faults) (silent n x (inr (inr (inr h))))
 
-  pub calm : (n : ℕ) → ((m : ℕ) → n ≡ m → E (status_at m)) → IsOneOf (0 ∷ 1 ∷ 2 ∷ 4 ∷ 9 ∷ []) n → s'.faults ≡ s.faults
+  pub calm : (n : ℕ) → ((m : ℕ) → n ≡ m → E (status_at m)) → IsOneOf (0 ∷ 1 ∷ 2 ∷ 4 ∷ 7 ∷ 9 ∷ []) n → s'.faults ≡ s.faults
   calm n x (inl h) = (x 0 h).so.read.calm
   calm n x (inr (inl h)) = (x 1 h).so.read.calm
   calm n x (inr (inr (inl h))) = (x 2 h).0.shelf.calm
   calm n x (inr (inr (inr (inl h)))) = (x 4 h).0.so.refused.read.calm
-  calm n x (inr (inr (inr (inr h)))) = wanting (x 9 h).0.wanting
+  calm n x (inr (inr (inr (inr (inl h))))) = (x 7 h).so.read.calm
+  calm n x (inr (inr (inr (inr (inr h))))) = wanting (x 9 h).0.wanting
     where
       wanting : IsUntouched s s' ⊎ Asks words (λ a. WantsMemory a s s') → s'.faults ≡ s.faults
       wanting (inl u) = u.calm

@@ -1,6 +1,6 @@
 pub mod Planned
+pub mod Audited
 pub mod Answered
-pub mod ReadLaws
-pub mod Exact
+pub mod Found
 pub mod Ended
 pub mod Pieces

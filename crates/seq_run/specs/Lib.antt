@@ -1,10 +1,5 @@
 pub mod Statuses
-pub mod Words
-pub mod Files
-pub mod Causes
-pub mod Stops
 pub mod ArrangeText
-pub mod SlicesText
-pub mod Messages
 pub mod Printed
+pub mod Planning
 pub mod Runs

@@ -2,39 +2,41 @@
 -- the run, `e` and `e'` what `err` did, `o` and `o'` what `out` did.
 --
 --   IsMisworded words s s' e e'          status 2: the words are refused, no file was started, and `err` took their line
---   IsAnswered v a s s' e e' o o'        status 0 and 1: `err` took the notes, and `out` the whole text of an answer
+--   IsAnswered v a s s' e e' o o'        status 0, 1 and 7: `err` took the notes, and `out` the whole text of an answer
 --   IsUnreadFile a s s' e e'             status 3: reading failed at this file that the words name, and `err` took its line
 --   IsWrongFile a s s' e e'              status 4: the first file that can't be used is refused, and `err` took its line
 --   IsUsable files a                     all files can be used
 --   HasNoPlan files a                    they can, and no plan is valid for them
+--   HasFault files a                     they can, and the plan that is to be audited isn't valid for them
 --   WordsBroke, ErrBroke, OutBroke       status 8: a sink failed within the line of refused words; within the line of a stop or
 --                                        the notes of an answer; within its text
 --   LineBroke, NotesBroke                the two cases of ErrBroke
 --   IsWanting words s s' e e'            status 9: memory was wanting, and `err` took its line
 --   IsUnwritten words s s' e e' o o'     status 8: the three cases; `out` is written after `err`
 --   Ends words s s' e e' o o' status     what each status says
-use Rattle.std.specs.Prelude.{◌≡◌, ◌⊎◌, ℕ, Bool, List, Option, Err}
+use Rattle.std.specs.Prelude.{◌≡◌, ◌⊎◌, ℕ, Bool, List, Option, Some, Err}
+use Rattle.plan_text.specs.declared.file.PlanFile.{PlanFile}
 use Rattle.seq_io.specs.Taken.{BrokeIn, Wrote}
 use Rattle.seq_io.specs.Views.{ShelfView, SinkView}
 use Rattle.seq_io.specs.declared.mem_file.MemFile.{MemFile}
-use Rattle.seq_model.specs.Scenes.{Description, Valid, scene_of_files}
+use Rattle.seq_model.specs.Scenes.{Valid}
 use Rattle.seq_model.specs.declared.plan.Plan.{Plan}
 use Rattle.seq_words.specs.declared.command.Words.TheVariants.{NoMemory}
-use Rattle.seq_run.specs.Files.{AreUsable, NamedMesh, facets_of, name_in}
-use Rattle.seq_run.specs.Messages.{words_line, read_line, input_line, line_of, memory_line}
-use Rattle.seq_run.specs.Printed.{Answers}
-use Rattle.seq_run.specs.Stops.{Explains, FailedAt, IsUntouched, ReadUpTo, RefusedAt, WantsMemory, last_of}
-use Rattle.seq_run.specs.Words.{Asks, requested}
+use Rattle.run_files.specs.Files.{AreUsable, Inputs, name_in}
+use Rattle.run_lines.specs.Messages.{words_line, read_line, input_line, line_of, memory_line}
+use Rattle.seq_run.specs.Printed.{Answers, IsGoodPlan, scene_of}
+use Rattle.run_files.specs.Stops.{Explains, FailedAt, IsUntouched, ReadUpTo, RefusedAt, WantsMemory, last_of}
+use Rattle.run_files.specs.Words.{Asks, requested}
 use Rattle.seq_run.specs.declared.status.Status.{Status}
 use Rattle.seq_run.specs.declared.status.Status.TheVariants as Statuses
 use Rattle.seq_run.specs.declared.status.Verdict.{Verdict}
-use Rattle.seq_run.specs.declared.stop.Cause.{Cause}
-use Rattle.seq_run.specs.declared.stop.NamedFile.{NamedFile}
-use Rattle.seq_run.specs.declared.stop.Stop.{Stop}
-use Rattle.seq_run.specs.declared.words.Asked.{Asked}
-use Rattle.seq_run.specs.declared.words.Misworded.{Misworded}
-use Rattle.seq_run.specs.declared.words.Misworded.TheVariants.{Refused}
-use Rattle.seq_run.specs.declared.words.Task.TheVariants.{Arrange}
+use Rattle.run_files.specs.declared.stop.Cause.{Cause}
+use Rattle.run_files.specs.declared.stop.NamedFile.{NamedFile}
+use Rattle.run_files.specs.declared.stop.Stop.{Stop}
+use Rattle.run_files.specs.declared.words.Asked.{Asked}
+use Rattle.run_files.specs.declared.words.Misworded.{Misworded}
+use Rattle.run_files.specs.declared.words.Misworded.TheVariants.{Refused}
+use Rattle.run_files.specs.declared.words.Task.TheVariants.{Arrange, Audit}
 
 pub record IsMisworded (words : List (List ℕ)) (s s' : ShelfView) (e e' : SinkView) : Type 0 where
   pub why : Misworded
@@ -66,18 +68,25 @@ pub record IsWanting (words : List (List ℕ)) (s s' : ShelfView) (e e' : SinkVi
   pub err : Wrote memory_line e e'
 
 pub record IsUsable (files : Option (List MemFile)) (a : Asked) : Type 0 where
-  pub description : Description
-  pub meshes : List NamedMesh
-  pub usable : AreUsable files a description meshes
+  pub inputs : Inputs
+  pub usable : AreUsable files a inputs
 
 -- the files can be used, and no plan is valid for them, on the whole plate or at a smaller extent
 pub record HasNoPlan (files : Option (List MemFile)) (a : Asked) : Type 0 where
   pub strict : Bool
   pub arranges : a.task ≡ Arrange strict
-  pub description : Description
-  pub meshes : List NamedMesh
-  pub usable : AreUsable files a description meshes
-  pub none : (e : ℕ) (plan : Plan) → Valid (scene_of_files description (facets_of meshes)) e plan → ⊥
+  pub inputs : Inputs
+  pub usable : AreUsable files a inputs
+  pub none : (e : ℕ) (plan : Plan) → Valid (scene_of inputs) e plan → ⊥
+
+-- the files can be used, and the plan among them, that is to be audited, isn't valid on the whole plate
+pub record HasFault (files : Option (List MemFile)) (a : Asked) : Type 0 where
+  pub audits : a.task ≡ Audit
+  pub inputs : Inputs
+  pub usable : AreUsable files a inputs
+  pub file : PlanFile
+  pub named : inputs.plan ≡ Some file
+  pub not_good : IsGoodPlan inputs file → ⊥
 
 pub record WordsBroke (words : List (List ℕ)) (s s' : ShelfView) (e e' : SinkView) : Type 0 where
   pub why : Misworded

@@ -9,12 +9,13 @@ use Rattle.seq_run.specs.declared.status.Status.{Status}
 use Rattle.seq_run.specs.declared.status.Status.TheVariants as Statuses
 use Rattle.seq_run.specs.declared.status.Verdict.{Verdict}
 use Rattle.seq_run.specs.declared.status.Verdict.TheVariants as Verdicts
-use Rattle.seq_run.specs.declared.stop.Stop.{Stop}
-use Rattle.seq_run.specs.declared.stop.Stop.TheVariants as Stops
+use Rattle.run_files.specs.declared.stop.Stop.{Stop}
+use Rattle.run_files.specs.declared.stop.Stop.TheVariants as Stops
 
 abbrev pub code_of_verdict : Verdict → ℕ
 code_of_verdict Verdicts.Done = 0
 code_of_verdict Verdicts.NoPlan = 1
+code_of_verdict Verdicts.Fault = 7
 
 abbrev pub code_of : Status → ℕ
 code_of (Statuses.Answered verdict) = code_of_verdict verdict

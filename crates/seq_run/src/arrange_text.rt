@@ -3,12 +3,12 @@ ghost use Rattle.lone_object.specs.Lone.{lone_plan};
 ghost use Rattle.plan_text.specs.PlanText.{IsPlace, number_line, plan_text};
 ghost use Rattle.seq_run.specs.ArrangeText.{bound_line, found, none_text};
 
-use crate::numbers::put_number;
 use owned_lists::Items;
 use plan_text::{PlanFile, State, write_plan};
 use seq_model::{Place, Plan};
 use seq_num::NoMemory;
 use std::alloc::{AllocError, Global};
+use text_lines::{put_line, put_number};
 
 // The plan of one place, at scale 1.
 fn alone(alloc: Global, place: Place) -> Result<Plan, NoMemory>
@@ -44,10 +44,10 @@ fn put_bound(to: &mut Vec<u8>, row: u32) -> Result<(), AllocError>
 
 // Appends the line of the extent that a certificate excludes.
 fn put_excludes(to: &mut Vec<u8>, extent: u32) -> Result<(), AllocError>
-    ensures { OnOk result (to.new.items ≡ to.old.items ++ number_line (codes "excludes ") (pos extent)) }
+    ensures { OnOk result (to.new.items
+        ≡ to.old.items ++ number_line (codes "excludes ") (pos extent)) }
 {
-    put_number(to, b"excludes ", i128::from(extent))?;
-    to.extend_from_slice(b"\n")
+    put_line(to, b"excludes ", i128::from(extent))
 }
 
 /// The text that says that there is no plan on the whole plate, with the certificate of one row, taken once.

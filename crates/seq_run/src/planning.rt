@@ -1,146 +1,113 @@
-ghost use Rattle.std.specs.Prelude.{◌≡◌, ◌∷◌, [], length, IfOk, IfErr};
-ghost use Rattle.mesh_checks.specs.Edges.{open_edges};
-ghost use Rattle.mesh_checks.specs.Volumes.{six_volume};
-ghost use Rattle.mesh_slices.specs.Objects.{CanBeSliced, IsObjectOf};
-ghost use Rattle.seq_model.specs.Soundness.{IsSoundObject};
-ghost use Rattle.seq_run.specs.Printed.{AreNotesFor, ArrangesJob, PrintsFor};
-ghost use Rattle.seq_run.specs.Causes.{IsUnfit, IsUnlooked, IsUnsliced};
-ghost use Rattle.seq_run.specs.Files.{NamedMesh, PassesStrict, mesh_of};
-ghost use Rattle.seq_run.specs.Messages.{IsNoteOf};
-ghost use Rattle.seq_run.specs.declared.words.Task.{Task};
+ghost use Rattle.std.specs.Prelude.{◌≡◌, Option, Some, length, IfOk};
+ghost use Rattle.plan_text.specs.PlanText.{IsPlanFile};
+ghost use Rattle.plan_text.specs.declared.file.PlanFile.{PlanFile};
+ghost use Rattle.run_files.specs.declared.words.Task.{Task};
+ghost use Rattle.seq_run.specs.Planning.{CanWorkOn, PrintsFor, verdict_of};
 
+use crate::Verdict;
 use crate::arrange_text::{found_text, none_text};
-use crate::messages::note_of;
-use crate::slices_text::slices_text;
-use crate::{Cause, Unfit, Verdict};
+use audit_text::audit_text;
 use lone_object::place_alone;
-use mesh_checks::{Notes, look};
-use mesh_slices::{Slice, object};
 use owned_lists::Items;
-use seq_model::{Job, Mesh, Object, Printer};
+use plan_audit::{Verdict as Audit, audit};
+use plan_text::PlanFile;
+use run_files::Task;
+use seq_model::Job;
 use seq_num::NoMemory;
+use slice_text::slices_text;
 use std::alloc::Global;
 
-/// What a run answers where its files can be used: its verdict, and what goes to `err` and then to `out`.
+/// What goes to `out`, and its verdict.
 #[derive(Debug, Drop)]
-pub struct Answer {
+pub struct Printed {
     pub verdict: Verdict,
-    pub notes: Items<u8>,
     pub text: Items<u8>,
 }
 
-// What there is to say of a mesh; a strict run refuses one that isn't closed or doesn't look outward.
-fn looked(alloc: Global, strict: bool, mesh: &Mesh) -> Result<Notes, Unfit>
-    ensures open { IfOk result (λ looks. looks.open_edges ≡ open_edges mesh.now.facets) }
-    ensures volume { IfOk result (λ looks. looks.six_volume ≡ six_volume mesh.now.facets) }
-    ensures dropped { IfOk result (λ looks. looks.dropped ≡ mesh.now.dropped) }
-    ensures passes { IfOk result (λ looks. PassesStrict strict mesh.now.facets) }
-    ensures why { IfErr result (IsUnlooked strict mesh.now.facets) }
-{
-    let looks = look(alloc, mesh)?;
-    if strict && !looks.is_closed_outward() {
-        return Err(Unfit::Because(Cause::NotClosed {
-            open_edges: looks.open_edges,
-            six_volume: looks.six_volume,
-        }));
-    }
-    Ok(looks)
-}
-
-// The object of a mesh of this name.
-fn sliced(alloc: Global, name: &str, mesh: &Mesh, printer: &Printer) -> Result<Object, Unfit>
-    ensures object { IfOk result (IsObjectOf name.now mesh.now.facets printer.now) }
-    ensures slices { IfOk result (λ object. CanBeSliced mesh.now.facets printer.now.step) }
-    ensures why { IfErr result (IsUnsliced mesh.now.facets printer.now.step) }
-{
-    match object(alloc, name, mesh, printer) {
-        Ok(object) => Ok(object),
-        Err(Slice::Flat) => Err(Unfit::Because(Cause::Flat)),
-        Err(Slice::TooTall(bands)) => Err(Unfit::Because(Cause::TooTall(bands))),
-        Err(Slice::NoMemory) => Err(Unfit::NoMemory),
-    }
-}
-
-// The job of one object.
-fn job_of(alloc: Global, printer: Printer, object: Object) -> Result<Job, NoMemory>
-    requires { IsSoundObject object }
-    ensures printer { IfOk result (λ job. job.printer ≡ printer) }
-    ensures objects { IfOk result (λ job. job.objects ≡ object ∷ []) }
-{
-    let mut objects = Items::new(alloc);
-    objects.push(object)?;
-    Ok(Job { printer, objects })
-}
-
 // The plan of a job's one object, at the plate's low corner, or the certificate that there is none.
-fn arrange(alloc: Global, job: &Job, notes: Items<u8>) -> Result<Answer, NoMemory>
+fn arrange(alloc: Global, strict: bool, job: &Job) -> Result<Printed, NoMemory>
     requires { length job.now.objects ≡ 1 }
-    ensures prints { IfOk result (λ answer. ArrangesJob job.now answer.verdict answer.text) }
-    ensures notes { IfOk result (λ answer. answer.notes ≡ notes) }
+    ensures { (plan : Option PlanFile)
+        → IfOk result (λ p. PrintsFor (Task.Arrange strict) job.now plan p.verdict p.text) }
 {
     let printer = &job.printer;
     let object = &job.objects.as_slice()[0];
     match place_alone(printer, &object.low, &object.high) {
         Ok(place) => {
             let text = Items::from_vec(found_text(alloc, printer.grid, place)?);
-            Ok(Answer {
+            Ok(Printed {
                 verdict: Verdict::Done,
-                notes,
                 text,
             })
         }
         Err(row) => {
             let text = Items::from_vec(none_text(alloc, printer.grid, row)?);
-            Ok(Answer {
+            Ok(Printed {
                 verdict: Verdict::NoPlan,
-                notes,
                 text,
             })
         }
     }
 }
 
-/// The plan of a mesh of this name, or that there is none.
-pub fn arrange_mesh(
-    alloc: Global,
-    strict: bool,
-    name: &str,
-    mesh: &Mesh,
-    printer: Printer,
-) -> Result<Answer, Unfit>
-    ensures prints { IfOk result (λ answer. PrintsFor (Task.Arrange strict) printer
-        (mesh_of name.now mesh.now.facets mesh.now.dropped ∷ []) answer.verdict answer.text) }
-    ensures note { IfOk result (λ answer. IsNoteOf name.now
-        (open_edges mesh.now.facets) (six_volume mesh.now.facets) mesh.now.dropped answer.notes) }
-    ensures passes { IfOk result (λ answer. PassesStrict strict mesh.now.facets) }
-    ensures slices { IfOk result (λ answer. CanBeSliced mesh.now.facets printer.step) }
-    ensures why { IfErr result (IsUnfit (Task.Arrange strict) mesh.now.facets printer.step) }
+// The bands and outlines of a job's one object.
+fn slice(alloc: Global, job: &Job) -> Result<Printed, NoMemory>
+    requires { length job.now.objects ≡ 1 }
+    ensures { (plan : Option PlanFile)
+        → IfOk result (λ p. PrintsFor Task.Slices job.now plan p.verdict p.text) }
 {
-    let looks = looked(alloc, strict, mesh)?;
-    let object = sliced(alloc, name, mesh, &printer)?;
-    let notes = note_of(alloc, name, &looks)?;
-    let job = job_of(alloc, printer, object)?;
-    Ok(arrange(alloc, &job, notes)?)
-}
-
-/// The bands and outlines of a mesh of this name.
-pub fn slice_mesh(
-    alloc: Global,
-    name: &str,
-    mesh: &Mesh,
-    printer: &Printer,
-) -> Result<Answer, Unfit>
-    ensures prints { IfOk result (λ answer. PrintsFor Task.Slices printer.now
-        (mesh_of name.now mesh.now.facets mesh.now.dropped ∷ []) answer.verdict answer.text) }
-    ensures quiet { IfOk result (λ answer. answer.notes ≡ []) }
-    ensures slices { IfOk result (λ answer. CanBeSliced mesh.now.facets printer.now.step) }
-    ensures why { IfErr result (IsUnfit Task.Slices mesh.now.facets printer.now.step) }
-{
-    let object = sliced(alloc, name, mesh, printer)?;
-    let text = slices_text(alloc, &object)?;
-    Ok(Answer {
+    let object = &job.objects.as_slice()[0];
+    let text = slices_text(alloc, object)?;
+    Ok(Printed {
         verdict: Verdict::Done,
-        notes: Items::new(alloc),
         text: Items::from_vec(text),
     })
+}
+
+fn verdict_of(audit: Audit) -> Verdict
+    ensures { result ≡ verdict_of audit }
+{
+    match audit {
+        Audit::Good => Verdict::Done,
+        _ => Verdict::Fault,
+    }
+}
+
+// Whether the plan of a file is valid on the whole plate, and else its first fault.
+fn audit_file(alloc: Global, job: &Job, file: &PlanFile) -> Result<Printed, NoMemory>
+    requires { IsPlanFile file.now }
+    ensures { IfOk result (λ p. PrintsFor Task.Audit job.now (Some file.now) p.verdict p.text) }
+{
+    let printer = &job.printer;
+    let found = audit(job, printer.grid, &file.plan);
+    let text = audit_text(
+        alloc,
+        printer.parts.as_slice(),
+        file.plan.places.as_slice(),
+        found,
+    )?;
+    Ok(Printed {
+        verdict: verdict_of(found),
+        text: Items::from_vec(text),
+    })
+}
+
+/// What a task makes of the job of its files, and of the plan.
+pub fn work_on(
+    alloc: Global,
+    task: Task,
+    job: &Job,
+    plan: &Option<PlanFile>,
+) -> Result<Printed, NoMemory>
+    requires { CanWorkOn task job.now plan.now }
+    ensures { IfOk result (λ p. PrintsFor task job.now plan.now p.verdict p.text) }
+{
+    match task {
+        Task::Arrange { strict } => arrange(alloc, strict, job),
+        Task::Audit => match plan {
+            Some(file) => audit_file(alloc, job, file),
+            None => unreachable!(),
+        },
+        Task::Slices => slice(alloc, job),
+    }
 }

@@ -1,15 +1,17 @@
 ghost use Rattle.std.specs.Prelude.{◌≡◌};
 ghost use Rattle.seq_run.specs.Statuses.{code_of, code_of_verdict, status_of};
 
-use crate::Stop;
+use run_files::Stop;
 
 /// What is said of the files' job where all of them can be used.
 #[derive(Clone, Copy, PartialEq, Eq, Debug)]
 pub enum Verdict {
-    /// A plan was found, or the outlines are printed.
+    /// A plan was found, the plan that was given is valid, or the outlines are printed.
     Done,
     /// There is no plan.
     NoPlan,
+    /// The plan that was given isn't valid.
+    Fault,
 }
 
 /// How a run ends.
@@ -29,6 +31,7 @@ fn code_of_verdict(verdict: Verdict) -> u8
     match verdict {
         Verdict::Done => 0,
         Verdict::NoPlan => 1,
+        Verdict::Fault => 7,
     }
 }
 

@@ -1,69 +1,53 @@
-ghost use Rattle.std.specs.Prelude.{◌≡◌, ◌∷◌, [], List, Some, None, length, IsErr, IfOk, IfErr, OnOk};
+ghost use Rattle.std.specs.Prelude.{◌≡◌, ◌∷◌, [], List, Some, IsErr, IfOk, IfErr, OnOk};
+ghost use Rattle.run_files.specs.Stops.{Explains, ReadUpTo, last_of};
+ghost use Rattle.run_files.specs.Words.{Asks, IsRequest, requested};
 ghost use Rattle.seq_io.specs.declared.mem_file.MemFile.{MemFile};
-ghost use Rattle.mesh_slices.specs.Objects.{CanBeSliced};
-ghost use Rattle.seq_run.specs.Causes.{IsUnfit};
-ghost use Rattle.seq_run.specs.Files.{PassesStrict, mesh_of, name_in};
-ghost use Rattle.seq_run.specs.Printed.{Answers, IsNoteFor, PrintsFor};
-ghost use Rattle.seq_run.specs.Runs.{AskedEnds, Ends, HasNoPlan, IsAnswered, IsMisworded, IsUnreadFile, IsUnwritten, IsUsable, IsWanting, IsWrongFile, RefusalEnds};
+ghost use Rattle.seq_run.specs.Planning.{CanWorkOn, PrintsFor};
+ghost use Rattle.seq_run.specs.Printed.{Answers};
+ghost use Rattle.seq_run.specs.Runs.{AskedEnds, Ends, HasFault, HasNoPlan, IsAnswered, IsMisworded, IsUnreadFile, IsUnwritten, IsUsable, IsWanting, IsWrongFile, RefusalEnds};
 ghost use Rattle.seq_run.specs.Statuses.{IsOneOf};
-ghost use Rattle.seq_run.specs.Stops.{Explains, ReadUpTo, last_of, unfit_stop};
-ghost use Rattle.seq_run.specs.Words.{Asks, is_strict, requested};
 ghost use Rattle.seq_run.specs.declared.status.Verdict.{Verdict};
-ghost use Rattle.seq_run.specs.declared.stop.NamedFile.{NamedFile};
 ghost use Rattle.seq_words.specs.Usages.{texts};
 
-use crate::files::{load_mesh, load_printer};
-use crate::messages::words_line;
-use crate::planning::{Answer, arrange_mesh, slice_mesh};
+use crate::Status;
+use crate::planning::{Printed, work_on};
 use crate::status::{code_of, status_of};
-use crate::telling::{deliver, tell};
-use crate::words::{name_in, request};
-use crate::{Asked, Misworded, NamedFile, Status, Stop, Task, Unfit};
+use crate::telling::{Answer, deliver, tell};
+use run_files::{Asked, Loaded, Misworded, Stop, Task, load, request};
+use run_lines::words_line;
 use seq_io::{Shelf, Sink, SinkFault, write_all};
-use seq_model::{Mesh, Printer};
+use seq_num::NoMemory;
 use seq_words::Words;
 use std::alloc::Global;
 
-// The stop at a mesh that gives no answer.
-fn stop_at(number: usize, why: Unfit) -> Stop
-    ensures { result ≡ unfit_stop number why }
+// What a task makes of what was loaded.
+fn answer_of(alloc: Global, task: Task, loaded: Loaded) -> Result<Answer, NoMemory>
+    requires { CanWorkOn task loaded.job loaded.plan }
+    ensures prints { IfOk result (λ answer. PrintsFor task loaded.job loaded.plan answer.verdict answer.text) }
+    ensures notes { IfOk result (λ answer. answer.notes ≡ loaded.notes) }
 {
-    match why {
-        Unfit::Because(cause) => Stop::Input(NamedFile::Mesh(number), cause),
-        Unfit::NoMemory => Stop::Memory,
-    }
+    let Loaded { job, plan, notes } = loaded;
+    let Printed { verdict, text } = work_on(alloc, task, &job, &plan)?;
+    Ok(Answer {
+        verdict,
+        notes,
+        text,
+    })
 }
 
-// What the words ask for, done with a printer and the first mesh.
-fn work_on(alloc: Global, asked: &Asked, mesh: &Mesh, printer: Printer) -> Result<Answer, Unfit>
-    ensures prints { IfOk result (λ answer. PrintsFor asked.now.task printer
-        (mesh_of (name_in asked.now (NamedFile.Mesh 0)) mesh.now.facets mesh.now.dropped ∷ []) answer.verdict answer.text) }
-    ensures note { IfOk result (λ answer. IsNoteFor asked.now.task (name_in asked.now (NamedFile.Mesh 0))
-        mesh.now.facets mesh.now.dropped answer.notes) }
-    ensures passes { IfOk result (λ answer. PassesStrict (is_strict asked.now.task) mesh.now.facets) }
-    ensures slices { IfOk result (λ answer. CanBeSliced mesh.now.facets printer.step) }
-    ensures why { IfErr result (IsUnfit asked.now.task mesh.now.facets printer.step) }
-{
-    let name = name_in(asked, NamedFile::Mesh(0));
-    match asked.task {
-        Task::Arrange { strict } => arrange_mesh(alloc, strict, name, mesh, printer),
-        Task::Slices => slice_mesh(alloc, name, mesh, &printer),
-    }
-}
-
-// What the files that the words name give. Each is read in word order, and only where those before it can be used.
+// What the files that the words name give.
 fn work<S: Shelf>(alloc: Global, asked: &Asked, shelf: &mut S) -> Result<Answer, Stop>
-    requires one { length asked.now.meshes ≡ 1 }
-    requires bare { asked.now.plan ≡ None }
-    ensures answers { IfOk result (λ answer. Answers (S.shows shelf.old).files asked.now answer.verdict answer.notes answer.text) }
-    ensures read { OnOk result (ReadUpTo asked.now (last_of asked.now) (S.shows shelf.old) (S.shows shelf.new)) }
+    requires { IsRequest asked.now }
+    ensures answers { IfOk result (λ answer. Answers (S.shows shelf.old).files asked.now
+        answer.verdict answer.notes answer.text) }
+    ensures read { OnOk result (ReadUpTo asked.now (last_of asked.now)
+        (S.shows shelf.old) (S.shows shelf.new)) }
     ensures why { IfErr result (Explains asked.now (S.shows shelf.old) (S.shows shelf.new)) }
 {
-    let printer = load_printer(alloc, asked, shelf)?;
-    let mesh = load_mesh(alloc, asked, 0, shelf)?;
-    match work_on(alloc, asked, &mesh, printer) {
+    let loaded = load(alloc, asked, shelf)?;
+    match answer_of(alloc, asked.task, loaded) {
         Ok(answer) => Ok(answer),
-        Err(why) => Err(stop_at(0, why)),
+        Err(NoMemory) => Err(Stop::Memory),
     }
 }
 
@@ -88,8 +72,7 @@ fn answer<S: Shelf, O: Sink, E: Sink>(
     out: &mut O,
     err: &mut E,
 ) -> Status
-    requires one { length asked.now.meshes ≡ 1 }
-    requires bare { asked.now.plan ≡ None }
+    requires { IsRequest asked.now }
     ensures { AskedEnds asked.now (S.shows shelf.old) (S.shows shelf.new)
         (E.shows err.old) (E.shows err.new) (O.shows out.old) (O.shows out.new) result }
 {
@@ -132,22 +115,35 @@ pub fn run<S: Shelf, O: Sink, E: Sink>(
     out: &mut O,
     err: &mut E,
 ) -> u8
-    ensures statuses { IsOneOf (0 ∷ 1 ∷ 2 ∷ 3 ∷ 4 ∷ 8 ∷ 9 ∷ []) result }
+    ensures statuses { IsOneOf (0 ∷ 1 ∷ 2 ∷ 3 ∷ 4 ∷ 7 ∷ 8 ∷ 9 ∷ []) result }
 
-    // 0: `err` took the notes, and then `out` the whole text of a plan that is valid on the plate, or of the object's bands.
+    // 0: `err` took the notes, and then `out` the whole text of a plan that is valid on the plate, of the object's bands, or
+    // that the plan that was given is valid.
     ensures found { result ≡ 0 → Asks (texts words.now.items) (λ a. IsAnswered Verdict.Done a
-        (S.shows shelf.old) (S.shows shelf.new) (E.shows err.old) (E.shows err.new) (O.shows out.old) (O.shows out.new)) }
+        (S.shows shelf.old) (S.shows shelf.new)
+        (E.shows err.old) (E.shows err.new) (O.shows out.old) (O.shows out.new)) }
 
     // 1: exactly where no plan is valid; `err` took the notes, and then `out` the text that says so, with a certificate.
     ensures none { result ≡ 1 → Asks (texts words.now.items) (λ a. IsAnswered Verdict.NoPlan a
-        (S.shows shelf.old) (S.shows shelf.new) (E.shows err.old) (E.shows err.new) (O.shows out.old) (O.shows out.new)) }
+        (S.shows shelf.old) (S.shows shelf.new)
+        (E.shows err.old) (E.shows err.new) (O.shows out.old) (O.shows out.new)) }
     ensures none_always { (files : List MemFile) → (S.shows shelf.old).files ≡ Some files
-        → Asks (texts words.now.items) (HasNoPlan (Some files)) → IsOneOf (1 ∷ 3 ∷ 8 ∷ 9 ∷ []) result }
+        → Asks (texts words.now.items) (HasNoPlan (Some files))
+        → IsOneOf (1 ∷ 3 ∷ 8 ∷ 9 ∷ []) result }
+
+    // 7: exactly where the plan that is to be audited isn't valid; `out` took its first fault.
+    ensures fault { result ≡ 7 → Asks (texts words.now.items) (λ a. IsAnswered Verdict.Fault a
+        (S.shows shelf.old) (S.shows shelf.new)
+        (E.shows err.old) (E.shows err.new) (O.shows out.old) (O.shows out.new)) }
+    ensures fault_always { (files : List MemFile) → (S.shows shelf.old).files ≡ Some files
+        → Asks (texts words.now.items) (HasFault (Some files))
+        → IsOneOf (3 ∷ 7 ∷ 8 ∷ 9 ∷ []) result }
 
     // 2: exactly where the words are refused, or what they ask for isn't built; no file is started.
     ensures words { result ≡ 2 → IsMisworded (texts words.now.items)
         (S.shows shelf.old) (S.shows shelf.new) (E.shows err.old) (E.shows err.new) }
-    ensures words_always { IsErr (requested (texts words.now.items)) → IsOneOf (2 ∷ 8 ∷ 9 ∷ []) result }
+    ensures words_always { IsErr (requested (texts words.now.items))
+        → IsOneOf (2 ∷ 8 ∷ 9 ∷ []) result }
 
     // 3: only where the shelf failed at a file that the words name, once those before it were found usable.
     ensures read { result ≡ 3 → Asks (texts words.now.items) (λ a. IsUnreadFile a
@@ -158,21 +154,26 @@ pub fn run<S: Shelf, O: Sink, E: Sink>(
         (S.shows shelf.old) (S.shows shelf.new) (E.shows err.old) (E.shows err.new)) }
     ensures input_always { (Asks (texts words.now.items) (IsUsable (S.shows shelf.old).files) → ⊥)
         → IsOneOf (2 ∷ 3 ∷ 4 ∷ 8 ∷ 9 ∷ []) result }
-    ensures input_only { (files : List MemFile) → (S.shows shelf.old).files ≡ Some files → result ≡ 4
+    ensures input_only { (files : List MemFile) → (S.shows shelf.old).files ≡ Some files
+        → result ≡ 4
         → Asks (texts words.now.items) (IsUsable (Some files)) → ⊥ }
 
     // 8: exactly where a sink failed, within its text; `out` is written after `err`.
     ensures write { result ≡ 8 → IsUnwritten (texts words.now.items)
-        (S.shows shelf.old) (S.shows shelf.new) (E.shows err.old) (E.shows err.new) (O.shows out.old) (O.shows out.new) }
-    ensures err_calm { IsOneOf (0 ∷ 1 ∷ 2 ∷ 3 ∷ 4 ∷ 9 ∷ []) result → (E.shows err.new).faults ≡ (E.shows err.old).faults }
-    ensures out_calm { IsOneOf (0 ∷ 1 ∷ 2 ∷ 3 ∷ 4 ∷ 9 ∷ []) result → (O.shows out.new).faults ≡ (O.shows out.old).faults }
+        (S.shows shelf.old) (S.shows shelf.new)
+        (E.shows err.old) (E.shows err.new) (O.shows out.old) (O.shows out.new) }
+    ensures err_calm { IsOneOf (0 ∷ 1 ∷ 2 ∷ 3 ∷ 4 ∷ 7 ∷ 9 ∷ []) result
+        → (E.shows err.new).faults ≡ (E.shows err.old).faults }
+    ensures out_calm { IsOneOf (0 ∷ 1 ∷ 2 ∷ 3 ∷ 4 ∷ 7 ∷ 9 ∷ []) result
+        → (O.shows out.new).faults ≡ (O.shows out.old).faults }
 
     // 9: want of memory.
     ensures memory { result ≡ 9 → IsWanting (texts words.now.items)
         (S.shows shelf.old) (S.shows shelf.new) (E.shows err.old) (E.shows err.new) }
 
     ensures silent { IsOneOf (2 ∷ 3 ∷ 4 ∷ 9 ∷ []) result → O.shows out.new ≡ O.shows out.old }
-    ensures calm { IsOneOf (0 ∷ 1 ∷ 2 ∷ 4 ∷ 9 ∷ []) result → (S.shows shelf.new).faults ≡ (S.shows shelf.old).faults }
+    ensures calm { IsOneOf (0 ∷ 1 ∷ 2 ∷ 4 ∷ 7 ∷ 9 ∷ []) result
+        → (S.shows shelf.new).faults ≡ (S.shows shelf.old).faults }
 {
     code_of(end(alloc, words, shelf, out, err))
 }

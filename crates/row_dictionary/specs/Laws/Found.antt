@@ -3,7 +3,7 @@
 --   Found zs p n found      nothing where no place below n passes the test, else the least number whose place does
 --   found_is                what least_upto computes is this
 --   place_unique            in a list without repeats a number has one place
-use Rattle.std.proofs.Common.{◌≡◌, ℕ, zero, suc, ◌+◌, ◌<◌, ◌≤◌, List, [], ◌∷◌, length, get_or, refl, ap, sym, subst, ◌∙◌, arith, ℤ, pos, ◌≤ℤ◌, ◌<ℤ◌, Bool, true, false, Option, Some, None, ◌⊎◌, inl, inr}
+use Rattle.std.proofs.Common.{◌≡◌, ℕ, zero, suc, ◌<◌, ◌≤◌, List, [], ◌∷◌, length, get_or, refl, ap, sym, subst, ◌∙◌, arith, ℤ, pos, ◌≤ℤ◌, ◌<ℤ◌, Bool, true, false, Option, Some, None, ◌⊎◌, inl, inr}
 use Rattle.std.proofs.lemmas.Bool.{cases_lt}
 use Rattle.std.proofs.lemmas.Bool.Decides.{nat_tests}
 use Rattle.std.proofs.lemmas.Int.{ints}
@@ -23,7 +23,7 @@ use Rattle.row_dictionary.specs.Laws.Placing.{line_placed, entry_placed}
 use Rattle.seq_model.specs.Walks.{constant, entries}
 use Rattle.seq_model.specs.declared.row.Row.{Row}
 use Rattle.row_dictionary.specs.Scans.{least_upto, number_at, least_leaving, least_entering}
-use Rattle.row_dictionary.specs.Tables.{lesser_of, least_with}
+use Rattle.row_dictionary.specs.Tables.{least_with}
 
 pub record FoundAt (zs : List ℕ) (p : ℕ → Bool) (n z : ℕ) : Type 0 where
   pub i : ℕ

@@ -20,7 +20,7 @@ use Rattle.row_dictionary.specs.Scans.{number_at, pushed, IsSmallRow}
 use Rattle.row_dictionary.specs.Tables.{AreLines, IsLine}
 use Rattle.seq_model.specs.Dictionaries.{is_in}
 use Rattle.seq_model.specs.declared.row.Row.{Row}
-use Rattle.seq_model.specs.Walks.{constant, entries}
+use Rattle.seq_model.specs.Walks.{entries}
 
 differs : (x y : ℕ) → (x ≡ y → ⊥) → nat_eq x y ≡ false
 differs x y n = grind (arith, nat_tests, n)

@@ -1,4 +1,4 @@
-use Rattle.std.proofs.Common.{rules, ◌≡◌, arith}
+use Rattle.std.proofs.Common.{arith}
 use Rattle.integer_laws.specs.Laws.Members.{In-from_contains}
 use Rattle.row_pivots.specs.Laws.Measure.{place_is}
 use Rattle.row_dictionary.proofs.making.basis_of.Goals as goal

@@ -1,4 +1,4 @@
-use Rattle.std.proofs.Common.{rules, ◌≡◌, ℤ, sym, subst, SFits, to_z-of_z}
+use Rattle.std.proofs.Common.{rules, ℤ, sym, subst, SFits, to_z-of_z}
 use Rattle.std.specs.Int.{w128}
 use Rattle.integer_laws.specs.Divisors.{IsGcdOf}
 use Rattle.row_dictionary.specs.Mixing.{mixed}

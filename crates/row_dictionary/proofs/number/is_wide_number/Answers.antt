@@ -1,6 +1,5 @@
-use Rattle.std.proofs.Common.{◌≡◌, arith, ap, sym, pos, unsigned_abs, IsTrue, subst}
+use Rattle.std.proofs.Common.{arith, ap, sym, unsigned_abs, subst}
 use lib.Dec.{T}
-use Rattle.row_dictionary.specs.Mixing.{mixed}
 use Rattle.row_dictionary.proofs.Keeping.{kept_number}
 use Rattle.row_dictionary.proofs.number.is_wide_number.Goals as goal
 

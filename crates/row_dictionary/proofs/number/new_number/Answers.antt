@@ -1,4 +1,4 @@
-use Rattle.std.proofs.Common.{rules, ◌≡◌, ◌∙◌, sym, SFits, w64, to_z-of_z}
+use Rattle.std.proofs.Common.{rules, ◌∙◌, sym, SFits, w64, to_z-of_z}
 use Rattle.row_dictionary.proofs.Keeping.{kept_number}
 use Rattle.row_dictionary.proofs.number.new_number.Goals as goal
 

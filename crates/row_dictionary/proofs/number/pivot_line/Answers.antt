@@ -1,4 +1,4 @@
-use Rattle.std.proofs.Common.{rules, ◌≡◌, ◌<◌, length, get_or, ℤ, pos, sym, ap, subst, ◌∙◌, arith, SFits, w64, to_z-of_z, int_div, All}
+use Rattle.std.proofs.Common.{rules, ◌≡◌, ◌<◌, length, get_or, pos, sym, ap, subst, ◌∙◌, arith, SFits, w64, to_z-of_z, int_div}
 use Rattle.std.proofs.lemmas.List.Elements.{All-get_or}
 use Rattle.integer_laws.specs.Laws.InPlace.{get_or-rewritten, rewritten_more, rewritten_all}
 use Rattle.row_pivots.specs.Ends.{Small}

@@ -1,4 +1,4 @@
-use Rattle.std.proofs.Common.{◌≡◌, ◌∙◌, ap, sym, ◌++◌, ◌∷◌, []}
+use Rattle.std.proofs.Common.{◌∙◌, ap, sym, ◌++◌, ◌∷◌, []}
 use Rattle.row_dictionary.proofs.Seats.{range_zero, joined_next}
 use Rattle.std.specs.List.{range_with_len}
 use Rattle.row_dictionary.proofs.variables.first_places.Goals as goal

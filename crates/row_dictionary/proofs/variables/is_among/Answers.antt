@@ -1,4 +1,3 @@
-use Rattle.std.proofs.Common.{rules, ◌≡◌}
 use Rattle.row_dictionary.proofs.Seats.{kept_among}
 use Rattle.row_dictionary.proofs.variables.is_among.Goals as goal
 

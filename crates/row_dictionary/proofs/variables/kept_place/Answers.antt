@@ -1,4 +1,4 @@
-use Rattle.std.proofs.Common.{◌≡◌, ◌∙◌, sym, subst}
+use Rattle.std.proofs.Common.{◌∙◌, sym, subst}
 use lib.Dec.{T}
 use Rattle.row_dictionary.proofs.Seats.{kept, kept_none}
 use Rattle.row_dictionary.proofs.variables.kept_place.Goals as goal

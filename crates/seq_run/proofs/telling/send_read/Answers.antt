@@ -2,7 +2,7 @@ use Rattle.std.proofs.Common.{rules, ◌++◌, codes}
 use Rattle.std.proofs.lemmas.Result.{on_err_weaker}
 use Rattle.seq_io.specs.Taken.{BrokeIn, Wrote}
 use Rattle.seq_io.specs.Views.{SinkView}
-use Rattle.seq_run.specs.Messages.{read_line}
+use Rattle.run_lines.specs.Messages.{read_line}
 use Rattle.seq_run.proofs.Pieces.{BrokeIn-append, BrokeIn-front}
 use Rattle.seq_run.proofs.telling.send_read.Goals as goal
 

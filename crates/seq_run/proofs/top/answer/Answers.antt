@@ -2,7 +2,7 @@ use Rattle.std.proofs.Common.{sym, subst}
 use Rattle.seq_io.specs.Views.{ShelfView, SinkView}
 use Rattle.seq_run.specs.Runs.{AskedEnds}
 use Rattle.seq_run.proofs.Ended.{stop_ends}
-use Rattle.seq_run.proofs.ReadLaws.{told_explains}
+use Rattle.run_files.specs.Laws.Stopping.{told_explains}
 use Rattle.seq_run.proofs.top.answer.Goals as goal
 
 pub returns-in-Ok-tell : goal.returns-in-Ok-tell

@@ -1,4 +1,4 @@
-use Rattle.std.proofs.Common.{rules, ◌≡◌, ◌<◌, ◌+◌, ◌∙◌, ap, ap₂, sym, subst, arith, get_or, set, length, List, ℕ, pos, suc}
+use Rattle.std.proofs.Common.{◌≡◌, ◌+◌, ◌∙◌, ap, ap₂, sym, subst, arith, get_or, set, length, List, ℕ, suc}
 use Rattle.integer_laws.specs.Laws.Members.{In-from_contains}
 use Rattle.row_pivots.specs.Laws.Measure.{place_is}
 use Rattle.row_pivots.specs.Tables.{place_of}
@@ -48,7 +48,7 @@ returns-clause-fine c =
     let s_is : c.free_place-s.result ≡ place_of c.args.entering t.free = c.free_place-s.ensures.is ∙ ap (place_of c.args.entering) (ap (λ (t : Seen). t.free) c.self.view_is) in
     let at : get_or t.free c.free_place-s.result 0 ≡ c.args.entering = ap (λ s. get_or t.free s 0) s_is ∙ (place_is c.args.entering t.free (In-from_contains t.free c.args.entering c.requires.entering)).1 in
     let same : set t.basic c.basic_place-r.result (get_or t.free c.free_place-s.result 0) ≡ swapped t.basic c.args.leaving c.args.entering = ap₂ (λ r x. set t.basic r x) r_is at in
-    λ rows y h e w. c.pivot_at.ensures.fine rows y h e (subst (λ (b : List ℕ). WideAt t.vars rows (rising (t.vars + length rows) b) y) (sym same) w)
+    λ e rows y h w. c.pivot_at.ensures.fine e rows y h (subst (λ (b : List ℕ). WideAt t.vars rows (rising (t.vars + length rows) b) y) (sym same) w)
 
 pub returns-clause-wide : goal.returns-clause-wide
 returns-clause-wide c =
@@ -57,7 +57,7 @@ returns-clause-wide c =
     let s_is : c.free_place-s.result ≡ place_of c.args.entering t.free = c.free_place-s.ensures.is ∙ ap (place_of c.args.entering) (ap (λ (t : Seen). t.free) c.self.view_is) in
     let at : get_or t.free c.free_place-s.result 0 ≡ c.args.entering = ap (λ s. get_or t.free s 0) s_is ∙ (place_is c.args.entering t.free (In-from_contains t.free c.args.entering c.requires.entering)).1 in
     let same : set t.basic c.basic_place-r.result (get_or t.free c.free_place-s.result 0) ≡ swapped t.basic c.args.leaving c.args.entering = ap₂ (λ r x. set t.basic r x) r_is at in
-    λ rows z h e. subst (λ (b : List ℕ). WideAt t.vars rows (rising (t.vars + length rows) b) z) same (c.pivot_at.ensures.wide rows z h e)
+    λ z e rows h. subst (λ (b : List ℕ). WideAt t.vars rows (rising (t.vars + length rows) b) z) same (c.pivot_at.ensures.wide z e rows h)
 
 pub returns-clause-least : goal.returns-clause-least
 returns-clause-least c =
@@ -66,7 +66,7 @@ returns-clause-least c =
     let s_is : c.free_place-s.result ≡ place_of c.args.entering t.free = c.free_place-s.ensures.is ∙ ap (place_of c.args.entering) (ap (λ (t : Seen). t.free) c.self.view_is) in
     let at : get_or t.free c.free_place-s.result 0 ≡ c.args.entering = ap (λ s. get_or t.free s 0) s_is ∙ (place_is c.args.entering t.free (In-from_contains t.free c.args.entering c.requires.entering)).1 in
     let same : set t.basic c.basic_place-r.result (get_or t.free c.free_place-s.result 0) ≡ swapped t.basic c.args.leaving c.args.entering = ap₂ (λ r x. set t.basic r x) r_is at in
-    λ rows y z h e w. c.pivot_at.ensures.least rows y z h e (subst (λ (b : List ℕ). WideAt t.vars rows (rising (t.vars + length rows) b) y) (sym same) w)
+    λ z e rows y h w. c.pivot_at.ensures.least z e rows y h (subst (λ (b : List ℕ). WideAt t.vars rows (rising (t.vars + length rows) b) y) (sym same) w)
 
 pub returns-clause-free : goal.returns-clause-free
 returns-clause-free c =

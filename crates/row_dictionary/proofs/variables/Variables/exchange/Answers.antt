@@ -1,4 +1,4 @@
-use Rattle.std.proofs.Common.{rules, ◌≡◌, ◌∙◌, ◌<◌, ap, sym, subst, length, get_or, set, ℕ, List, arith}
+use Rattle.std.proofs.Common.{rules, ◌≡◌, ◌∙◌, ◌<◌, sym, subst, length, get_or, set}
 use Rattle.row_laws.specs.Laws.OneForm.{any_default}
 use Rattle.row_pivots.specs.Laws.Pivoting.{get_or-In}
 use Rattle.row_dictionary.specs.Seen.{Standing, IsPlaced}

@@ -1,0 +1,13 @@
+pub mod Circles
+pub mod Counts
+pub mod Marks
+pub mod NodeRules
+pub mod Ranges
+pub mod RoomLaws
+pub mod Stamps
+pub mod Standing
+pub mod Steps
+pub mod SystemRows
+pub mod Tables
+pub mod Trails
+pub mod Verdicts

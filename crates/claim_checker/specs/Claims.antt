@@ -1,0 +1,92 @@
+-- What a plan file claims of a job, with the tree block behind it, and how it is judged.
+--
+--   CanBeChecked state         the state claims something that a check can show: the least extent, or that there is no plan
+--   excluded_by file           the extent that the file excludes: the one below its own, or the whole plate; 0 where there is none
+--   HasPlanAsSaid job file     the plan of a least extent is valid there
+--   HasBlock e block           where an extent is excluded there is a block, and its nodes are spelt and one whole tree
+--   unless P fault claim later   the fault is answered and P doesn't hold, or P holds and the rest of the list says what is answered
+--   IsTreeClaim job e tree c   the tree refutes the extent, or its first node that breaks a rule is answered
+--   IsBlockClaim job e block c where an extent is excluded: the block's own number is it, and then what is said of its tree
+--   IsClaim job file block c   the judgement: the first of these that doesn't hold, in this order; or that the claim passes
+--   Shows job file x           what a claim that passes with the number x shows: no plan is valid at x nor below; for a least extent its plan
+--                              is valid there, and it is the least; where no plan is claimed there is none at any extent
+use Rattle.std.specs.Prelude.{◌≡◌, ◌⊎◌, ℕ, zero, suc, ◌-◌, ◌≤◌, All, Option, Some, None}
+use Rattle.cert_checker.specs.Rules.{IsFirstBroken}
+use Rattle.cert_text.specs.TreeText.{IsSpelt}
+use Rattle.cert_text.specs.declared.block.Head.{Head}
+use Rattle.claim_checker.specs.declared.verdict.Claim.{Claim}
+use Rattle.claim_checker.specs.declared.verdict.Claim.TheVariants as Claims
+use Rattle.claim_checker.specs.declared.verdict.Fault.{Fault}
+use Rattle.claim_checker.specs.declared.verdict.Fault.TheVariants as Faults
+use Rattle.plan_text.specs.declared.file.PlanFile.{PlanFile}
+use Rattle.plan_text.specs.declared.file.State.{State}
+use Rattle.plan_text.specs.declared.file.State.TheVariants as States
+use Rattle.seq_model.specs.Jobs.{scene_of_job}
+use Rattle.seq_model.specs.Scenes.{Least, Valid}
+use Rattle.seq_model.specs.Trees.{IsWhole, TreeRefutes}
+use Rattle.seq_model.specs.declared.job.Job.{Job}
+use Rattle.seq_model.specs.declared.plan.Plan.{Plan}
+use Rattle.seq_model.specs.declared.tree.Tree.{Tree}
+
+abbrev pub CanBeChecked : State → Type 0
+CanBeChecked States.Found = ⊥
+CanBeChecked States.Least = Unit {0}
+CanBeChecked States.OpenBudget = ⊥
+CanBeChecked States.OpenWide = ⊥
+CanBeChecked States.NoPlan = Unit {0}
+CanBeChecked States.UndecidedBudget = ⊥
+CanBeChecked States.UndecidedWide = ⊥
+
+abbrev pub excluded_in : State → ℕ → ℕ → ℕ
+excluded_in States.Found grid extent = 0
+excluded_in States.Least grid extent = extent - 1
+excluded_in States.OpenBudget grid extent = 0
+excluded_in States.OpenWide grid extent = 0
+excluded_in States.NoPlan grid extent = grid
+excluded_in States.UndecidedBudget grid extent = 0
+excluded_in States.UndecidedWide grid extent = 0
+
+abbrev pub excluded_by : PlanFile → ℕ
+excluded_by file = excluded_in file.state file.grid file.extent
+
+abbrev pub HasPlanAsSaid : Job → PlanFile → Type 0
+HasPlanAsSaid job file = file.state ≡ States.Least → Valid (scene_of_job job) file.extent file.plan
+
+-- as the reader of tree blocks gives them
+abbrev pub IsReadTree : Tree → Type 0
+IsReadTree tree = IsWhole tree × All IsSpelt tree.nodes
+
+abbrev pub HasBlock : ℕ → Option (Head × Tree) → Type 0
+HasBlock zero block = Unit {0}
+HasBlock (suc e) None = ⊥
+HasBlock (suc e) (Some b) = IsReadTree b.1
+
+abbrev pub unless : Type 0 → Fault → Claim → Type 0 → Type 0
+unless P fault claim later = ((claim ≡ Claims.Fails fault) × (P → ⊥)) ⊎ (P × later)
+
+abbrev pub IsTreeClaim : Job → ℕ → Tree → Claim → Type 0
+IsTreeClaim job e tree (Claims.Passes x) = (x ≡ e) × TreeRefutes job e tree
+IsTreeClaim job e tree (Claims.Fails Faults.State) = ⊥
+IsTreeClaim job e tree (Claims.Fails Faults.Grid) = ⊥
+IsTreeClaim job e tree (Claims.Fails Faults.Plan) = ⊥
+IsTreeClaim job e tree (Claims.Fails Faults.Excludes) = ⊥
+IsTreeClaim job e tree (Claims.Fails (Faults.Node k rule)) = IsFirstBroken job e tree.nodes k rule
+
+abbrev pub IsBlockClaim : Job → ℕ → Option (Head × Tree) → Claim → Type 0
+IsBlockClaim job zero block claim = claim ≡ Claims.Passes 0
+IsBlockClaim job (suc e) None claim = ⊥
+IsBlockClaim job (suc e) (Some b) claim = unless (b.0.extent ≡ suc e) Faults.Excludes claim (IsTreeClaim job (suc e) b.1 claim)
+
+abbrev pub IsClaim : Job → PlanFile → Option (Head × Tree) → Claim → Type 0
+IsClaim job file block claim =
+    unless (CanBeChecked file.state) Faults.State claim
+    (unless (file.grid ≡ job.printer.grid) Faults.Grid claim
+    (unless (HasPlanAsSaid job file) Faults.Plan claim
+    (IsBlockClaim job (excluded_by file) block claim)))
+
+pub record Shows (job : Job) (file : PlanFile) (x : ℕ) : Type 0 where
+  pub number : x ≡ excluded_by file
+  pub none_below : (e : ℕ) (plan : Plan) → e ≤ x → Valid (scene_of_job job) e plan → ⊥
+  pub plan : file.state ≡ States.Least → Valid (scene_of_job job) file.extent file.plan
+  pub least : file.state ≡ States.Least → Least (scene_of_job job) file.extent
+  pub none : file.state ≡ States.NoPlan → (e : ℕ) (plan : Plan) → Valid (scene_of_job job) e plan → ⊥

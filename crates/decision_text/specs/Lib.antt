@@ -1,0 +1,2 @@
+pub mod DecisionText
+pub mod Laws

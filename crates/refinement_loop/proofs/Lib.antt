@@ -1,0 +1,5 @@
+pub mod Printing
+pub mod Searching
+pub mod Steps
+pub mod Answering
+pub mod Visits

@@ -1,0 +1,168 @@
+-- Files that are told hold one description, one plan and one mesh each. So a file that is refused can't be used.
+--
+--   printer_file-one         a file states one description
+--   stated_plan-one          and one plan
+--   refused_files-unusable   where one file is refused, not all can be used
+--   same_inputs              the files that words name say one thing
+use Rattle.std.proofs.Common.{◌≡◌, ℕ, zero, suc, ◌<◌, ◌≤◌, ℤ, Bool, List, [], ◌∷◌, length, slice_get, Option, Some, None, IsSome, Result, Ok, Err, refl, sym, ap, ◌∙◌, subst, arith}
+use Rattle.mesh_checks.specs.Edges.{open_edges}
+use Rattle.mesh_checks.specs.Verdicts.{IsClosedOutward}
+use Rattle.mesh_checks.specs.Volumes.{six_volume}
+use Rattle.plan_text.specs.Reading.{plan_answer}
+use Rattle.plan_text.specs.declared.file.PlanFile.{PlanFile}
+use Rattle.plan_text.specs.declared.reading.PlanRead.{PlanRead}
+use Rattle.printer_text.specs.Laws.Descriptions.{description-one, description-refusal}
+use Rattle.printer_text.specs.Printers.{DescribedBy}
+use Rattle.seq_io.specs.Files.{bytes_of, GivesFile, LongerThan}
+use Rattle.seq_io.specs.declared.mem_file.MemFile.{MemFile}
+use Rattle.seq_model.specs.Bands.{band_count}
+use Rattle.seq_model.specs.Scenes.{Description}
+use Rattle.seq_model.specs.declared.mesh.Facet.{Facet}
+use Rattle.std.specs.List.{AllZip}
+use Rattle.stl_text.specs.Laws.Meshes.{one_mesh, refused_no_mesh}
+use Rattle.stl_text.specs.Meshes.{MeshOf}
+use Rattle.run_files.specs.Causes.{IsRefusedMesh, IsRefusedPlan, IsUnfitFile, Refuses}
+use Rattle.run_files.specs.Files.{AreUsable, HasNamedPlan, Inputs, IsMeshFile, IsPrinterFile, IsUsableMesh, NamedMesh, StatesPlan, facets_of, mesh_limit, name_or, plan_limit, printer_limit}
+use Rattle.run_files.specs.Words.{is_strict}
+use Rattle.run_files.specs.declared.stop.Cause.{Cause}
+use Rattle.run_files.specs.declared.stop.Cause.TheVariants as Causes
+use Rattle.run_files.specs.declared.stop.NamedFile.{NamedFile}
+use Rattle.run_files.specs.declared.stop.NamedFile.TheVariants as Named
+use Rattle.run_files.specs.declared.words.Asked.{Asked}
+use Rattle.run_files.specs.declared.words.Task.{Task}
+
+pub printer_file-one : (files : List MemFile) (name : List ℕ) (d e : Description) → IsPrinterFile (Some files) name d → IsPrinterFile (Some files) name e → d ≡ e
+printer_file-one files name d e p q = description-one p.bytes d e p.is (subst (λ b. DescribedBy b e) (q.gives ∙ sym p.gives) q.is)
+
+-- reading bytes in order answers one thing
+abbrev ok : PlanFile × ℕ → Result (PlanFile × ℕ) PlanRead
+ok x = Ok x
+
+answer-one : (r : Result (PlanFile × ℕ) PlanRead) (p q : PlanFile) (k l : ℕ) → r ≡ Ok (p, k) → r ≡ Ok (q, l) → p ≡ q
+answer-one r p q k l e f =
+    ap (λ (x : PlanFile × ℕ). x.0) (inside (p, k) (q, l) (sym e ∙ f))
+  where
+    inside : (x y : PlanFile × ℕ) → ok x ≡ ok y → x ≡ y
+    inside x y e = cc
+
+answer-refused : (r : Result (PlanFile × ℕ) PlanRead) (p : PlanFile) (k : ℕ) (e : PlanRead) → r ≡ Ok (p, k) → r ≡ Err e → ⊥
+answer-refused r p k e f g = apart (p, k) e (sym f ∙ g)
+  where
+    apart : (x : PlanFile × ℕ) (e : PlanRead) → ok x ≡ Err e → ⊥
+    apart x e same = absurd (cc same)
+
+pub stated_plan-one : (files : List MemFile) (name : List ℕ) (p q : PlanFile) → StatesPlan (Some files) name p → StatesPlan (Some files) name q → p ≡ q
+stated_plan-one files name p q s t = answer-one (plan_answer s.bytes) p q s.place t.place s.read (subst (λ b. plan_answer b ≡ Ok (q, t.place)) (t.gives ∙ sym s.gives) t.read)
+
+mesh_file-one : (files : List MemFile) (name : List ℕ) (fs gs : List Facet) (m n : ℕ) → IsMeshFile (Some files) name fs m → IsMeshFile (Some files) name gs n → fs ≡ gs
+mesh_file-one files name fs gs m n p q = (one_mesh p.bytes fs gs m n p.is (subst (λ b. MeshOf b gs n) (q.gives ∙ sym p.gives) q.is)).0
+
+too_long : (limit : ℕ) (files : List MemFile) (name bytes : List ℕ) → LongerThan limit (Some files) name → GivesFile (Some files) name bytes → length bytes ≤ limit → ⊥
+too_long limit files name bytes long gives short =
+    let same : length bytes ≡ length (bytes_of files name) = ap length gives in
+    absurd (omega (arith, long, same, short))
+
+-- a mesh that can be used can't be refused
+module _ (files : List MemFile) (name : List ℕ) (task : Task) (step : ℤ) (m : NamedMesh) (u : IsUsableMesh (Some files) (is_strict task) step name m) where
+  unfit : (c : Cause) → IsUnfitFile (Some files) name task step c → ⊥
+  unfit Causes.TooLong r = r.unfit
+  unfit (Causes.Printer why) r = r.unfit
+  unfit (Causes.Plan why) r = r.unfit
+  unfit (Causes.Stl why) r = r.unfit
+  unfit (Causes.NotClosed edges volume) r =
+      let same = mesh_file-one files name r.facets m.facets r.dropped m.dropped r.is u.is in
+      let n = r.unfit in
+      let count : open_edges m.facets ≡ edges = sym (n.counted ∙ ap open_edges same) in
+      let sum : six_volume m.facets ≡ volume = sym (n.summed ∙ ap six_volume same) in
+      n.refused (subst (IsClosedOutward edges) sum (subst (λ k. IsClosedOutward k (six_volume m.facets)) count (u.passes.closed n.asked)))
+  unfit Causes.Flat r =
+      let same = mesh_file-one files name r.facets m.facets r.dropped m.dropped r.is u.is in
+      u.slices.some (sym same ∙ r.unfit.1)
+  unfit (Causes.TooTall bands) r =
+      let same = mesh_file-one files name r.facets m.facets r.dropped m.dropped r.is u.is in
+      let count : bands ≡ band_count m.facets step = r.unfit.1.count ∙ ap (λ fs. band_count fs step) same in
+      absurd (omega (arith, count, r.unfit.1.many, u.slices.few))
+
+  usable_mesh : (c : Cause) → IsRefusedMesh (Some files) name task step c → ⊥
+  usable_mesh Causes.TooLong r = too_long mesh_limit files name u.is.bytes r u.is.gives u.is.short
+  usable_mesh (Causes.Printer e) r = r
+  usable_mesh (Causes.Plan e) r = r
+  usable_mesh (Causes.Stl e) r = refused_no_mesh r.bytes e m.facets m.dropped r.refused (subst (λ b. MeshOf b m.facets m.dropped) (u.is.gives ∙ sym r.gives) u.is.is)
+  usable_mesh (Causes.NotClosed edges volume) r = unfit (Causes.NotClosed edges volume) r
+  usable_mesh Causes.Flat r = unfit Causes.Flat r
+  usable_mesh (Causes.TooTall bands) r = unfit (Causes.TooTall bands) r
+
+-- the mesh of a number among those that can be used
+record Chosen (R : List ℕ → NamedMesh → Type 0) (names : List (List ℕ)) (k : ℕ) : Type 0 where
+  mesh : NamedMesh
+  is : R (name_or (slice_get names k)) mesh
+
+chosen : (R : List ℕ → NamedMesh → Type 0) (names : List (List ℕ)) (meshes : List NamedMesh) (k : ℕ) → AllZip R names meshes → k < length names → Chosen R names k
+chosen R [] meshes k z h = absurd (omega (arith, h))
+chosen R (n ∷ ns) [] k z h = absurd z
+chosen R (n ∷ ns) (m ∷ ms) zero z h = record { mesh = m; is = z.0 }
+chosen R (n ∷ ns) (m ∷ ms) (suc k) z h = (let later = chosen R ns ms k z.1 (omega (arith, h)) in record { mesh = later.mesh; is = later.is })
+
+-- a plan that a word names can't be refused where it can be used
+plan_unusable : (files : List MemFile) (name : List ℕ) (plan : PlanFile) (c : Cause) → StatesPlan (Some files) name plan → IsRefusedPlan (Some files) name c → ⊥
+plan_unusable files name plan Causes.TooLong s r = too_long plan_limit files name s.bytes r s.gives s.short
+plan_unusable files name plan (Causes.Printer e) s r = r
+plan_unusable files name plan (Causes.Plan e) s r = answer-refused (plan_answer s.bytes) plan s.place e s.read (subst (λ b. plan_answer b ≡ Err e) (r.gives ∙ sym s.gives) r.refused)
+plan_unusable files name plan (Causes.Stl e) s r = r
+plan_unusable files name plan (Causes.NotClosed edges volume) s r = r
+plan_unusable files name plan Causes.Flat s r = r
+plan_unusable files name plan (Causes.TooTall bands) s r = r
+
+named_plan_unusable : (files : List MemFile) (named : Option (List ℕ)) (plan : Option PlanFile) (c : Cause) → IsSome named → HasNamedPlan (Some files) named plan → IsRefusedPlan (Some files) (name_or named) c → ⊥
+named_plan_unusable files None plan c is h r = absurd (cc is)
+named_plan_unusable files (Some name) None c is h r = absurd h
+named_plan_unusable files (Some name) (Some plan) c is h r = plan_unusable files name plan c h r
+
+pub refused_files-unusable : (files : List MemFile) (a : Asked) (inputs : Inputs) (file : NamedFile) (c : Cause) → Refuses (Some files) a file c → AreUsable (Some files) a inputs → ⊥
+refused_files-unusable files a inputs file c r x = by file c r
+  where
+    by : (file : NamedFile) (c : Cause) → Refuses (Some files) a file c → ⊥
+    by Named.Printer Causes.TooLong r = too_long printer_limit files a.printer x.printer.bytes r x.printer.gives x.printer.short
+    by Named.Printer (Causes.Printer e) r = description-refusal r.bytes inputs.description e (subst (λ b. DescribedBy b inputs.description) (x.printer.gives ∙ sym r.gives) x.printer.is) r.refused
+    by Named.Printer (Causes.Plan e) r = r
+    by Named.Printer (Causes.Stl e) r = r
+    by Named.Printer (Causes.NotClosed edges volume) r = r
+    by Named.Printer Causes.Flat r = r
+    by Named.Printer (Causes.TooTall bands) r = r
+    by Named.Plan c r = named_plan_unusable files a.plan inputs.plan c r.before.named x.plan r.refused
+    by (Named.Mesh k) c r =
+        let one = printer_file-one files a.printer r.before.description inputs.description r.before.printer x.printer in
+        let m = chosen (IsUsableMesh (Some files) (is_strict a.task) inputs.description.step) a.meshes inputs.meshes k x.each r.before.there in
+        usable_mesh files (name_or (slice_get a.meshes k)) a.task inputs.description.step m.mesh m.is c
+        (subst (λ (d : Description). IsRefusedMesh (Some files) (name_or (slice_get a.meshes k)) a.task d.step c) one r.refused)
+
+-- the same files give the same facets
+facets-one : (files : List MemFile) (strict other : Bool) (step width : ℤ) (names : List (List ℕ)) (ms ns : List NamedMesh) → AllZip (IsUsableMesh (Some files) strict step) names ms → AllZip (IsUsableMesh (Some files) other width) names ns → facets_of ms ≡ facets_of ns
+facets-one files strict other step width [] [] [] p q = refl
+facets-one files strict other step width [] [] (n ∷ ns) p q = absurd q
+facets-one files strict other step width [] (m ∷ ms) ns p q = absurd p
+facets-one files strict other step width (x ∷ xs) [] ns p q = absurd p
+facets-one files strict other step width (x ∷ xs) (m ∷ ms) [] p q = absurd q
+facets-one files strict other step width (x ∷ xs) (m ∷ ms) (n ∷ ns) p q =
+    ap (λ f. f ∷ facets_of ms) (mesh_file-one files x m.facets n.facets m.dropped n.dropped p.0.is q.0.is) ∙ ap (λ fs. n.facets ∷ fs) (facets-one files strict other step width xs ms ns p.1 q.1)
+
+plans-one : (files : List MemFile) (named : Option (List ℕ)) (p q : Option PlanFile) → HasNamedPlan (Some files) named p → HasNamedPlan (Some files) named q → p ≡ q
+plans-one files None None None h k = refl
+plans-one files None None (Some q) h k = absurd k
+plans-one files None (Some p) q h k = absurd h
+plans-one files (Some name) None q h k = absurd h
+plans-one files (Some name) (Some p) None h k = absurd k
+plans-one files (Some name) (Some p) (Some q) h k = ap Some (stated_plan-one files name p q h k)
+
+-- what two say of the same files, but for the names of their meshes and their dropped facets
+pub record SameInputs (x y : Inputs) : Type 0 where
+  pub description : x.description ≡ y.description
+  pub plan : x.plan ≡ y.plan
+  pub facets : facets_of x.meshes ≡ facets_of y.meshes
+
+pub same_inputs : (files : List MemFile) (a : Asked) (x y : Inputs) → AreUsable (Some files) a x → AreUsable (Some files) a y → SameInputs x y
+same_inputs files a x y u v = record {
+  description = printer_file-one files a.printer x.description y.description u.printer v.printer;
+  plan = plans-one files a.plan x.plan y.plan u.plan v.plan;
+  facets = facets-one files (is_strict a.task) (is_strict a.task) x.description.step y.description.step a.meshes x.meshes y.meshes u.each v.each;
+}

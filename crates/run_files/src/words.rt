@@ -1,0 +1,154 @@
+ghost use Rattle.std.specs.Prelude.{◌≡◌, ◌⊎◌, ◌≤◌, ℕ, Some, None, Ok, Err, length, slice_get, IfOk, IfErr, OnErr};
+ghost use Rattle.seq_words.specs.declared.command.Command.{Command};
+ghost use Rattle.seq_words.specs.Usages.{texts};
+ghost use Rattle.seq_words.specs.declared.command.Words.{Words};
+ghost use Rattle.run_files.specs.Files.{name_in, name_or};
+ghost use Rattle.run_files.specs.Words.{IsRequest, arrange_request, request_by, request_of, requested};
+
+use crate::NamedFile;
+use owned_lists::{Items, Text};
+use seq_words::{Command, Words, read};
+use std::alloc::Global;
+
+/// Why the words give nothing to do: they are refused, or their command isn't built yet.
+#[derive(Clone, Copy, PartialEq, Eq, Debug)]
+pub enum Misworded {
+    /// Want of memory among the causes.
+    Refused(Words),
+    NotBuilt,
+}
+
+/// What is to be done with the files.
+#[derive(Clone, Copy, PartialEq, Eq, Debug)]
+pub enum Task {
+    /// A strict run refuses a mesh that isn't closed or doesn't look outward.
+    Arrange { strict: bool },
+    Audit,
+    Slices,
+}
+
+/// What the words ask for, and the files that they name, in word order.
+#[derive(Debug, Drop)]
+pub struct Asked {
+    pub task: Task,
+    pub printer: Text,
+    /// An audit is of a plan.
+    pub plan: Option<Text>,
+    /// 1 to 16.
+    pub meshes: Items<Text>,
+}
+
+// A task with its files. clap finds at least one mesh.
+fn request_by(
+    task: Task,
+    printer: Text,
+    plan: Option<Text>,
+    meshes: Items<Text>,
+) -> Result<Asked, Misworded>
+    ensures asked { result ≡ request_by task printer plan meshes }
+{
+    if meshes.is_empty() {
+        Err(Misworded::Refused(Words::Usage))
+    } else {
+        Ok(Asked {
+            task,
+            printer,
+            plan,
+            meshes,
+        })
+    }
+}
+
+// What `arrange` asks for, so far of one mesh.
+fn request_to_arrange(strict: bool, printer: Text, meshes: Items<Text>) -> Result<Asked, Misworded>
+    ensures { result ≡ arrange_request strict printer meshes }
+{
+    if meshes.len() == 1 {
+        request_by(Task::Arrange { strict }, printer, None, meshes)
+    } else {
+        Err(Misworded::NotBuilt)
+    }
+}
+
+// What `slices` asks for.
+fn request_to_slice(alloc: Global, printer: Text, mesh: Text) -> Result<Asked, Misworded>
+    ensures asked { IfOk result (λ a. request_of (Command.Slices printer mesh) ≡ Ok a) }
+    ensures refused { IfErr result (λ why. why ≡ Misworded.Refused Words.NoMemory) }
+{
+    let mut meshes = Items::new(alloc);
+    if meshes.push(mesh).is_err() {
+        return Err(Misworded::Refused(Words::NoMemory));
+    }
+    Ok(Asked {
+        task: Task::Slices,
+        printer,
+        plan: None,
+        meshes,
+    })
+}
+
+// What a command asks for, if it is built.
+fn request_of(alloc: Global, command: Command) -> Result<Asked, Misworded>
+    ensures asked { IfOk result (λ a. request_of command ≡ Ok a) }
+    ensures refused { IfErr result (λ why.
+        (why ≡ Misworded.Refused Words.NoMemory) ⊎ (request_of command ≡ Err why)) }
+{
+    match command {
+        Command::Arrange {
+            least: false,
+            strict,
+            budget: _,
+            printer,
+            meshes,
+        } => request_to_arrange(strict, printer, meshes),
+        Command::Audit {
+            printer,
+            plan,
+            meshes,
+        } => request_by(Task::Audit, printer, Some(plan), meshes),
+        Command::Slices { printer, mesh } => request_to_slice(alloc, printer, mesh),
+        _ => Err(Misworded::NotBuilt),
+    }
+}
+
+/// What the words ask for.
+pub fn request(alloc: Global, words: &[String]) -> Result<Asked, Misworded>
+    ensures asked { IfOk result (λ a. requested (texts words.now) ≡ Ok a) }
+    ensures is { IfOk result IsRequest }
+    ensures refused { IfErr result (λ why.
+        (why ≡ Misworded.Refused Words.NoMemory) ⊎ (requested (texts words.now) ≡ Err why)) }
+{
+    match read(alloc, words) {
+        Ok(command) => request_of(alloc, command),
+        Err(refusal) => Err(Misworded::Refused(refusal)),
+    }
+}
+
+/// The word that names a file; nothing where no word does.
+pub fn name_in(asked: &Asked, file: NamedFile) -> &str
+    ensures { result.now ≡ name_in asked.now file }
+{
+    match file {
+        NamedFile::Printer => asked.printer.as_str(),
+        NamedFile::Plan => plan_name(asked),
+        NamedFile::Mesh(number) => mesh_name(asked, number),
+    }
+}
+
+fn plan_name(asked: &Asked) -> &str
+    ensures { result.now ≡ name_or asked.now.plan }
+{
+    match &asked.plan {
+        Some(name) => name.as_str(),
+        None => "",
+    }
+}
+
+fn mesh_name(asked: &Asked, number: usize) -> &str
+    ensures { result.now ≡ name_or (slice_get asked.now.meshes number) }
+{
+    match asked.meshes.as_slice().get(number) {
+        Some(name) => name.as_str(),
+        None => "",
+    }
+}

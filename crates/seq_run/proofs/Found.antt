@@ -1,0 +1,40 @@
+-- What is answered of files that are told is so whatever else is said of them.
+use Rattle.std.proofs.Common.{◌≡◌, ℕ, List, Some, sym, ◌∙◌, subst}
+use Rattle.run_files.specs.Files.{Inputs, facets_of}
+use Rattle.run_files.specs.Laws.Exact.{SameInputs, same_inputs}
+use Rattle.run_files.specs.declared.words.Asked.{Asked}
+use Rattle.plan_text.specs.declared.file.PlanFile.{PlanFile}
+use Rattle.seq_io.specs.declared.mem_file.MemFile.{MemFile}
+use Rattle.seq_model.specs.Scenes.{Description, Valid, scene_of_files}
+use Rattle.seq_model.specs.declared.plan.Plan.{Plan}
+use Rattle.seq_run.specs.Printed.{Answers, Prints, scene_of}
+use Rattle.seq_run.specs.Runs.{HasFault, HasNoPlan}
+use Rattle.seq_run.specs.declared.status.Verdict.TheVariants.{Done, Fault, NoPlan}
+
+valid_same : (x y : Inputs) → SameInputs x y → (e : ℕ) (plan : Plan) → Valid (scene_of x) e plan → Valid (scene_of y) e plan
+valid_same x y s e plan v =
+    subst (λ fs. Valid (scene_of_files y.description fs) e plan) s.facets
+    (subst (λ (d : Description). Valid (scene_of_files d (facets_of x.meshes)) e plan) s.description v)
+
+pub found_plan-one : (files : List MemFile) (a : Asked) (notes text : List ℕ) → Answers (Some files) a Done notes text → HasNoPlan (Some files) a → ⊥
+found_plan-one files a notes text x n =
+    let p = subst (λ t. Prints t x.inputs Done text) n.arranges x.prints in
+    n.none x.inputs.description.grid p.plan (valid_same x.inputs n.inputs (same_inputs files a x.inputs n.inputs x.usable n.usable) x.inputs.description.grid p.plan p.valid)
+
+pub arranged_fault : (files : List MemFile) (a : Asked) (notes text : List ℕ) → Answers (Some files) a Fault notes text → HasNoPlan (Some files) a → ⊥
+arranged_fault files a notes text x n = subst (λ t. Prints t x.inputs Fault text) n.arranges x.prints
+
+pub good_plan-one : (files : List MemFile) (a : Asked) (notes text : List ℕ) → Answers (Some files) a Done notes text → HasFault (Some files) a → ⊥
+good_plan-one files a notes text x n =
+    let p = subst (λ t. Prints t x.inputs Done text) n.audits x.prints in
+    let s = same_inputs files a x.inputs n.inputs x.usable n.usable in
+    let same : p.file ≡ n.file = one p.file n.file (sym p.named ∙ s.plan ∙ n.named) in
+    let valid : Valid (scene_of n.inputs) x.inputs.description.grid p.file.plan = valid_same x.inputs n.inputs s x.inputs.description.grid p.file.plan p.good in
+    n.not_good (subst (λ (d : Description). Valid (scene_of n.inputs) d.grid n.file.plan) s.description
+    (subst (λ (f : PlanFile). Valid (scene_of n.inputs) x.inputs.description.grid f.plan) same valid))
+  where
+    one : (p q : PlanFile) → Some p ≡ Some q → p ≡ q
+    one p q e = cc
+
+pub audited_none : (files : List MemFile) (a : Asked) (notes text : List ℕ) → Answers (Some files) a NoPlan notes text → HasFault (Some files) a → ⊥
+audited_none files a notes text x n = subst (λ t. Prints t x.inputs NoPlan text) n.audits x.prints
