@@ -1,7 +1,7 @@
 -- What the contacts of two objects show.
-use Rattle.std.proofs.Common.{◌≡◌, ◌≢◌, ℕ, ◌<◌, List, [], ◌∷◌, length, Contains, Option, Some, None, MatchOption, IsNone, ◌↔◌, refl, sym, ap, ap₂, subst, ◌∙◌, arith, ℤ, inl, inr, ◌⊎◌}
+use Rattle.std.proofs.Common.{◌≡◌, ℕ, ◌<◌, List, [], ◌∷◌, length, Option, Some, None, MatchOption, refl, sym, ap, subst, arith, inl, inr, ◌⊎◌}
 use Rattle.integer_laws.specs.Laws.Members.{Contains-from_in}
-use Rattle.node_looks.specs.Candidates.{IsCandidate, IsHit, IsForcedOrder, IsSettled, IsPairLook}
+use Rattle.node_looks.specs.Candidates.{IsCandidate, IsHit, IsPairLook}
 use Rattle.node_looks.specs.declared.hits.Hit.{Hit}
 use Rattle.node_looks.specs.declared.survey.Candidate.TheVariants as Candidates
 use Rattle.node_looks.specs.declared.survey.PairLook.TheVariants as PairLooks

@@ -1,13 +1,12 @@
 -- By the maximal contacts of two objects: where none of them collides at a point, the objects don't.
-use Rattle.std.proofs.Common.{◌≡◌, ◌≢◌, ℕ, ◌+◌, ◌<◌, ◌≤◌, List, [], ◌∷◌, length, get_or, map, All, Contains, Option, Some, None, IsSome, MatchOption, IsTrue, ◌↔◌, refl, sym, ap, ap₂, subst, ◌∙◌, arith, below_more, ℤ, pos, ◌≤ℤ◌, inl, inr, ◌⊎◌}
+use Rattle.std.proofs.Common.{◌≡◌, ◌≢◌, ℕ, ◌+◌, ◌<◌, ◌≤◌, List, length, get_or, Option, Some, None, MatchOption, sym, ap, ap₂, subst, ◌∙◌, arith, ℤ, pos, ◌≤ℤ◌, inl, inr, ◌⊎◌}
 use Rattle.std.proofs.lemmas.Bool.{cases_lt}
 use Rattle.std.proofs.lemmas.List.{get_or_default}
-use Rattle.integer_laws.specs.Members.{In}
-use Rattle.integer_laws.specs.Laws.Members.{All-in, In-map_cases, Contains-from_in}
+use Rattle.integer_laws.specs.Laws.Members.{In-map_cases, Contains-from_in}
 use Rattle.model_laws.specs.Laws.Collisions.{collides_by_contact}
 use Rattle.node_looks.specs.Candidates.{IsHit, IsNearest, NoneHits}
 use Rattle.node_looks.specs.declared.hits.Hit.{Hit}
-use Rattle.pair_constraints.specs.Maximal.{IsOf, IsPair, contacts_of}
+use Rattle.pair_constraints.specs.Maximal.{IsPair}
 use Rattle.pair_constraints.specs.declared.kept.Kept.{Kept}
 use Rattle.search_laws.specs.Covering.{Covers}
 use Rattle.search_laws.specs.Laws.Covering.{inner_of_covered}

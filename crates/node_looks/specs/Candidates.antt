@@ -11,7 +11,7 @@
 --   IsSettled .. forced a b           that, both ways
 --   IsPairLook job e path at i j look what each answer on two objects shows
 --   IsSurveyed job e path at k best forced    the same of all pairs whose number 16 i + j is below k, i below j
-use Rattle.std.specs.Prelude.{◌≡◌, ◌≢◌, ℕ, ◌+◌, ◌*◌, ◌<◌, List, [], ◌∷◌, All, Option, Some, None, MatchOption, length, slice_index_or, Contains}
+use Rattle.std.specs.Prelude.{◌≡◌, ℕ, ◌+◌, ◌*◌, ◌<◌, List, [], ◌∷◌, All, Option, Some, None, MatchOption, length, slice_index_or, Contains}
 use Rattle.node_looks.specs.declared.hits.Hit.{Hit}
 use Rattle.node_looks.specs.declared.survey.Candidate.{Candidate}
 use Rattle.node_looks.specs.declared.survey.Candidate.TheVariants as Candidates

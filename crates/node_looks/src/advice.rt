@@ -78,7 +78,12 @@ fn push_beyond(room: &Room, kept: &Kept, limit: &Limit, at: &SystemPoint) -> i12
     push(&limit.dir, c, &gap(at, &kept.contact), at.den)
 }
 
-fn pushes(alloc: Global, room: &Room, kept: &Kept, at: &SystemPoint) -> Result<Vec<i128>, AllocError> {
+fn pushes(
+    alloc: Global,
+    room: &Room,
+    kept: &Kept,
+    at: &SystemPoint,
+) -> Result<Vec<i128>, AllocError> {
     let limits = kept.limits.as_slice();
     let mut keys = Vec::with_capacity(alloc, limits.len())?;
     for limit in limits {

@@ -38,7 +38,13 @@ fn cheaper(best: Option<Hit>, hit: Hit) -> Hit
 }
 
 // The best so far, and one contact more.
-fn with_contact(best: Option<Hit>, job: &Job, kept: &Kept, room: &Room, at: &SolvedPoint) -> Option<Hit>
+fn with_contact(
+    best: Option<Hit>,
+    job: &Job,
+    kept: &Kept,
+    room: &Room,
+    at: &SolvedPoint,
+) -> Option<Hit>
     requires kept { IsKept job.now kept.now }
     requires at { IsSolvedPoint at.now }
     requires many { length at.now.nums.now ≡ 2 * length job.now.objects }
@@ -57,7 +63,14 @@ fn with_contact(best: Option<Hit>, job: &Job, kept: &Kept, room: &Room, at: &Sol
 }
 
 // Of the contacts that collide at the point the one with the fewest live sides.
-fn cheapest_hit(job: &Job, pair: &[Kept], room: &Room, at: &SolvedPoint, i: u32, j: u32) -> Option<Hit>
+fn cheapest_hit(
+    job: &Job,
+    pair: &[Kept],
+    room: &Room,
+    at: &SolvedPoint,
+    i: u32,
+    j: u32,
+) -> Option<Hit>
     requires pair { IsPair job.now i j pair.now }
     requires at { IsSolvedPoint at.now }
     requires many { length at.now.nums.now ≡ 2 * length job.now.objects }

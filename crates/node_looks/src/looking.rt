@@ -23,9 +23,9 @@ use crate::system::system_rows;
 use crate::{Look, Looks};
 use feasible_point::{Solved, solve};
 use order_graph::OrderGraph;
+use owned_lists::Items;
 use pair_constraints::Contacts;
 use search_room::Room;
-use owned_lists::Items;
 use seq_model::{Choice, Job, Node, Row};
 use seq_num::NoMemory;
 use std::alloc::Global;
@@ -53,7 +53,9 @@ fn split(
     ensures { IfOk result (IsLook job.now extent path.now) }
 {
     match candidate {
-        Candidate::Side(contact) => open_contact(alloc, job, extent, path, contacts, room, at, contact),
+        Candidate::Side(contact) => open_contact(
+            alloc, job, extent, path, contacts, room, at, contact,
+        ),
         Candidate::Order { i, j } => Ok(order_split(alloc, job, extent, path, *i, *j)?),
     }
 }
@@ -84,16 +86,7 @@ fn look_in_order(
     let survey = look_at_pairs(alloc, job, extent, path, table, contacts, room, at)?;
     match &survey.best {
         Some(candidate) => split(alloc, job, extent, path, contacts, room, at, candidate),
-        None => Ok(complete(
-            alloc,
-            job,
-            extent,
-            path,
-            table,
-            graph,
-            &survey.forced,
-            at,
-        )?),
+        None => Ok(complete(alloc, job, extent, path, table, graph, &survey.forced, at)?),
     }
 }
 
@@ -117,9 +110,7 @@ fn look_at_point(
 {
     let table = table_of(path);
     match graph_of(job.objects.len() as u32, path, &table) {
-        Ok(graph) => look_in_order(
-            alloc, job, extent, path, &table, &graph, contacts, room, at,
-        ),
+        Ok(graph) => look_in_order(alloc, job, extent, path, &table, &graph, contacts, room, at),
         Err(cycle) => Ok(close_cycle(
             alloc,
             job,

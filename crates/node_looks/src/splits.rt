@@ -69,7 +69,11 @@ pub(crate) fn order_split(
     })
 }
 
-fn sides_as_choices(alloc: Global, contact: &Contact, dirs: &[Dir]) -> Result<Items<Choice>, AllocError>
+fn sides_as_choices(
+    alloc: Global,
+    contact: &Contact,
+    dirs: &[Dir],
+) -> Result<Items<Choice>, AllocError>
     ensures { IfOk result (λ c. c ≡ map (Choices.Side contact.now) dirs.now) }
 {
     let mut choices = Vec::with_capacity(alloc, dirs.len())?;
@@ -190,7 +194,12 @@ fn sides_between(alloc: Global, a: &Zone, b: &Zone, part: &Part) -> Result<Vec<D
     requires part { IsSoundPart part.now }
     ensures { IfOk result (λ dirs. AreSides (difference a.now.corners b.now.corners part.now.corners) dirs.items) }
 {
-    sides_of(alloc, a.corners.as_slice(), b.corners.as_slice(), part.corners.as_slice())
+    sides_of(
+        alloc,
+        a.corners.as_slice(),
+        b.corners.as_slice(),
+        part.corners.as_slice(),
+    )
 }
 
 fn sides_of_contact(alloc: Global, job: &Job, contact: &Contact) -> Result<Vec<Dir>, NoMemory>
@@ -244,7 +253,5 @@ pub(crate) fn open_contact(
     ensures { IfOk result (IsLook job.now extent path.now) }
 {
     let dirs = sides_of_contact(alloc, job, contact)?;
-    open_by(
-        alloc, job, extent, path, contacts, room, at, contact, &dirs,
-    )
+    open_by(alloc, job, extent, path, contacts, room, at, contact, &dirs)
 }

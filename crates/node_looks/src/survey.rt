@@ -161,8 +161,14 @@ fn unordered_pair(
     let back = hit_of(job, extent, contacts, room, at, j, i);
     match (there, back) {
         (None, None) => PairLook::Settled,
-        (Some(_), None) => PairLook::Forced { first: j, second: i },
-        (None, Some(_)) => PairLook::Forced { first: i, second: j },
+        (Some(_), None) => PairLook::Forced {
+            first: j,
+            second: i,
+        },
+        (None, Some(_)) => PairLook::Forced {
+            first: i,
+            second: j,
+        },
         (Some(there), Some(back)) => order_of(i, j, &there, &back),
     }
 }
@@ -265,7 +271,11 @@ fn look_at_number(
     if j as usize >= job.objects.len() {
         return Ok(());
     }
-    survey.note(i, j, pair_look(job, extent, path, table, contacts, room, at, i, j))
+    survey.note(
+        i,
+        j,
+        pair_look(job, extent, path, table, contacts, room, at, i, j),
+    )
 }
 
 /// Looks at all pairs of objects at the point.

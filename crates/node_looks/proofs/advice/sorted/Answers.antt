@@ -1,4 +1,4 @@
-use Rattle.std.proofs.Common.{List, ℕ, sym, subst}
+use Rattle.std.proofs.Common.{sym, subst}
 use Rattle.node_looks.proofs.VisitLaws.{visit_moved}
 use Rattle.node_looks.specs.Looks.{IsVisit}
 use Rattle.node_looks.proofs.advice.sorted.Goals as goal

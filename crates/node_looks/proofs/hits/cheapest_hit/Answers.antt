@@ -1,4 +1,4 @@
-use Rattle.std.proofs.Common.{◌≡◌, ◌<◌, ◌≤◌, ℕ, sym, subst, arith, length}
+use Rattle.std.proofs.Common.{◌≡◌, ℕ, sym, subst, arith, length}
 use Rattle.node_looks.specs.Candidates.{IsNearest}
 use Rattle.pair_constraints.specs.Keeping.{IsKept}
 use Rattle.pair_constraints.specs.Maximal.{IsOf}

@@ -1,4 +1,4 @@
-use Rattle.std.proofs.Common.{◌≡◌, ℕ, List, sym, ap₂, subst, ◌∙◌, ℤ, rules, FitsSigned}
+use Rattle.std.proofs.Common.{List, sym, subst, ◌∙◌, rules, FitsSigned}
 use Rattle.std.proofs.lemmas.Int.{to_z-of_z}
 use Rattle.node_looks.proofs.PairLaws.{nearest_at}
 use Rattle.node_looks.specs.Points.{values}

@@ -1,4 +1,4 @@
-use Rattle.std.proofs.Common.{◌≡◌, ◌+◌, ℕ, Bool, true, false, sym, ◌∙◌}
+use Rattle.std.proofs.Common.{◌+◌}
 use Rattle.node_looks.proofs.PairLaws.{nearest_past, nearest_more}
 use Rattle.pair_constraints.specs.SolvedPoints.{values_of}
 use Rattle.plan_laws.specs.Laws.OnPath.{never}

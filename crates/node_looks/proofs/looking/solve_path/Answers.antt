@@ -1,4 +1,4 @@
-use Rattle.std.proofs.Common.{◌≡◌, ℕ, ◌*◌, List, length, sym, ap, subst, ◌∙◌, arith, pos}
+use Rattle.std.proofs.Common.{ℕ, ◌*◌, sym, subst, arith, pos}
 use Rattle.std.specs.Prelude.{IfOk}
 use Rattle.feasible_point.specs.Answering.{IsZeroPoint}
 use Rattle.integer_laws.specs.Vectors.{zeros}

@@ -1,6 +1,4 @@
-use Rattle.std.proofs.Common.{sym, subst}
 use Rattle.node_looks.proofs.HitLaws.{settled_ordered}
-use Rattle.node_looks.specs.Candidates.{IsPairLook}
 use Rattle.node_looks.specs.Points.{values}
 use Rattle.node_looks.proofs.survey.ordered_pair.Goals as goal
 

@@ -24,7 +24,10 @@ pub returns-in-Some-Some : goal.returns-in-Some-Some
 returns-in-Some-Some c =
     let job = c.args.job.now in
     let at = values c.args.at.now in
-    subst (IsPairLook job c.args.extent c.args.path.now at c.args.i c.args.j) (sym c.order_of.ensures.1)
-    (c.requires.low, c.requires.high, c.requires.unordered,
-     hit_some job c.args.extent at c.args.i c.args.j c.hit_of-there.result _ c.hit_of-there.ensures c.in-Some-Some.is-0,
-     hit_some job c.args.extent at c.args.j c.args.i c.hit_of-back.result _ c.hit_of-back.ensures c.in-Some-Some.is-1)
+    subst (IsPairLook job c.args.extent c.args.path.now at c.args.i c.args.j) (sym c.order_of.ensures.1) (
+      c.requires.low,
+      c.requires.high,
+      c.requires.unordered,
+      hit_some job c.args.extent at c.args.i c.args.j c.hit_of-there.result _ c.hit_of-there.ensures c.in-Some-Some.is-0,
+      hit_some job c.args.extent at c.args.j c.args.i c.hit_of-back.result _ c.hit_of-back.ensures c.in-Some-Some.is-1,
+    )
