@@ -61,3 +61,6 @@ pub fn check_text(alloc: Global, claim: Claim) -> Result<Vec<u8>, AllocError>
     }
     Ok(text)
 }
+
+#[cfg(test)]
+mod tests;

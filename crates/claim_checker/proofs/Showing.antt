@@ -60,13 +60,13 @@ shown_by job file x spelt grid plan number refuted = record {
     plan = file.plan;
     valid = plan same;
     none = λ f l q valid.
-      (let low = (plan same).from_one in
-      let here = ap (λ s. excluded_in s file.grid file.extent) same in
-      below f q (omega (arith, l, low, number, here)) valid);
+        (let low = (plan same).from_one in
+        let here = ap (λ s. excluded_in s file.grid file.extent) same in
+        below f q (omega (arith, l, low, number, here)) valid);
   };
   none = λ same e q valid.
-    (let here = ap (λ s. excluded_in s file.grid file.extent) same in
-    below e q (omega (arith, number, here, grid, valid.to_grid)) valid);
+      (let here = ap (λ s. excluded_in s file.grid file.extent) same in
+      below e q (omega (arith, number, here, grid, valid.to_grid)) valid);
 }
   where
     within : excluded_by file ≤ job.printer.grid
