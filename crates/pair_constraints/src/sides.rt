@@ -70,7 +70,12 @@ impl KeptSides {
     }
 
     /// All sides of a contact, in order. They are kept from their first use, and looked up from then on.
-    pub fn sides(&mut self, alloc: Global, job: &Job, contact: &Contact) -> Result<Items<Dir>, NoMemory>
+    pub fn sides(
+        &mut self,
+        alloc: Global,
+        job: &Job,
+        contact: &Contact,
+    ) -> Result<Items<Dir>, NoMemory>
         requires contact { IsContact job.now contact.now }
         requires kept { AreKeptSides job.now self.old }
         ensures kept { AreKeptSides job.now self.new }
