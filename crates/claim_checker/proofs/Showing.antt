@@ -2,7 +2,7 @@
 --
 --   claim_by         a judgement of the block is one of the claim, where the tests before it hold
 --   shown            a claim that passes shows what it says
-use Rattle.std.proofs.Common.{◌≡◌, ◌⊎◌, inl, inr, ℕ, zero, suc, ◌-◌, ◌<◌, ◌≤◌, Bool, true, Option, Some, None, refl, sym, subst, ap, ◌∙◌, arith}
+use Rattle.std.proofs.Common.{◌≡◌, inl, inr, ℕ, zero, suc, ◌≤◌, true, Option, Some, None, refl, subst, ap, arith}
 use Rattle.cert_text.specs.declared.block.Head.{Head}
 use Rattle.claim_checker.specs.Claims.{CanBeChecked, HasPlanAsSaid, IsBlockClaim, IsClaim, Shows, excluded_by, excluded_in}
 use Rattle.claim_checker.specs.declared.verdict.Claim.{Claim}

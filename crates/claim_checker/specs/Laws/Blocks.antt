@@ -3,7 +3,7 @@
 --   has_no_block_due     where no block is due at all
 --   has_no_claim         where the state claims nothing that can be checked
 --   has_block_read       where a block was read
-use Rattle.std.proofs.Common.{◌≡◌, ℕ, zero, suc, ◌-◌, Bool, true, false, Option, Some, None, sym, subst, arith, nat_lt}
+use Rattle.std.proofs.Common.{◌≡◌, ℕ, zero, suc, ◌-◌, false, Option, Some, sym, subst, arith, nat_lt}
 use Rattle.std.proofs.lemmas.Bool.Decides.{nat_tests}
 use Rattle.cert_text.specs.declared.block.Head.{Head}
 use Rattle.claim_checker.specs.Claims.{CanBeChecked, HasBlock, IsReadTree, excluded_in}

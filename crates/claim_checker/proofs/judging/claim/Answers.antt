@@ -1,7 +1,5 @@
-use Rattle.std.proofs.Common.{◌≡◌}
 use Rattle.std.proofs.lemmas.Result.{IfOk-weaker}
-use Rattle.claim_checker.specs.Claims.{IsBlockClaim, IsClaim, Shows}
-use Rattle.claim_checker.specs.declared.verdict.Claim.TheVariants as Claims
+use Rattle.claim_checker.specs.Claims.{IsBlockClaim, IsClaim}
 use Rattle.claim_checker.proofs.Showing.{claim_by, shown}
 use Rattle.claim_checker.proofs.judging.claim.Goals as goal
 
