@@ -251,7 +251,7 @@ static RUNS: [(&[&str], &[u64], u8, &[u8]); 23] = [
         2,
         b"words: not yet\n",
     ),
-    (&["arrange", "p", "q", "q"], &[], 2, b"words: not yet\n"),
+    (&["arrange", "p", "q", "q"], &[], 3, b"read: p\n"),
     (&["arrange", "p1.toml", "a.stl"], &[], 3, b"read: p1.toml\n"),
     (&["arrange", "p0.toml", "-"], &[], 3, b"read: -\n"),
     (ARRANGE, &[0], 3, b"read: p0.toml\n"),

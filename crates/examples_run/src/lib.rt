@@ -16,4 +16,6 @@ mod meshes;
 #[cfg(test)]
 mod runs;
 #[cfg(test)]
+mod several;
+#[cfg(test)]
 mod slicing;

@@ -45,10 +45,10 @@ const NONE: Failing = Failing {
 pub(crate) type Seen<'a> = (u8, &'a [u8], &'a [u8]);
 
 #[derive(Drop)]
-struct Outcome {
-    status: u8,
-    out: MemSink,
-    err: MemSink,
+pub(crate) struct Outcome {
+    pub(crate) status: u8,
+    pub(crate) out: MemSink,
+    pub(crate) err: MemSink,
 }
 
 fn file(alloc: Global, name: &str, bytes: Vec<u8>) -> Result<MemFile, Fail> {
@@ -97,6 +97,16 @@ fn run_in_memory(
     let mut err = sink(alloc, failing.err)?;
     let status = run(alloc, &owned(alloc, words)?, &mut shelf, &mut out, &mut err);
     Ok(Outcome { status, out, err })
+}
+
+/// What comes of the words over a printer and a mesh, where no call fails.
+pub(crate) fn outcome_of(
+    alloc: Global,
+    printer: &[u8],
+    mesh: Vec<u8>,
+    words: &[&str],
+) -> Result<Outcome, Fail> {
+    run_in_memory(alloc, printer, Vec::new(alloc), mesh, words, NONE)
 }
 
 /// Sees that the words over a printer and a mesh, with calls that fail, come to this.

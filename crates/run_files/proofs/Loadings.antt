@@ -60,12 +60,12 @@ notes-more (x ∷ ms) m notes note are is = record {
 }
 
 notes_for-more : (task : Task) (ms : List NamedMesh) (m : NamedMesh) (notes note : List ℕ) → AreNotesFor task ms notes → IsNoteFor task m note → AreNotesFor task (ms ++ m ∷ []) (notes ++ note)
-notes_for-more (Tasks.Arrange strict) ms m notes note are is = notes-more ms m notes note are is
+notes_for-more (Tasks.Arrange strict budget) ms m notes note are is = notes-more ms m notes note are is
 notes_for-more Tasks.Audit ms m notes note are is = ap (λ n. n ++ note) are ∙ is
 notes_for-more Tasks.Slices ms m notes note are is = ap (λ n. n ++ note) are ∙ is
 
 no_notes : (task : Task) → AreNotesFor task [] []
-no_notes (Tasks.Arrange strict) = refl
+no_notes (Tasks.Arrange strict budget) = refl
 no_notes Tasks.Audit = refl
 no_notes Tasks.Slices = refl
 

@@ -2,12 +2,11 @@
 --
 --   is_strict task      the run refuses meshes that aren't closed or don't look outward
 --   request_by ..       a task with its files; clap finds at least one mesh
---   arrange_request ..  what `arrange` asks for: so far it is built for one mesh
 --   request_of command  what a command asks for, where it is built: `arrange` without `--least`, `audit`, and `slices`
 --   requested words     what the words ask for, or why they are refused
 --   Asks words P        the words are accepted, and what they ask for is so
---   IsRequest a         there are 1 to 16 meshes; a plan is named for an audit alone; and the other tasks have one mesh
-use Rattle.std.specs.Prelude.{◌≡◌, ◌==◌, ◌≤◌, ℕ, List, [], ◌∷◌, length, Bool, false, if◌then◌else◌, Option, Some, None, IsSome, Result, Ok, Err}
+--   IsRequest a         there are 1 to 16 meshes, and one alone to slice; a plan is named for an audit alone; a budget is 1 to 1,000,000
+use Rattle.std.specs.Prelude.{◌≡◌, ◌≤◌, ℕ, List, [], ◌∷◌, length, Bool, false, Option, Some, None, IsSome, Result, Ok, Err}
 use Rattle.seq_words.specs.Asked.{asked}
 use Rattle.seq_words.specs.declared.command.Command.{Command}
 use Rattle.seq_words.specs.declared.command.Words.{Words}
@@ -18,7 +17,7 @@ use Rattle.run_files.specs.declared.words.Task.{Task}
 use Rattle.run_files.specs.declared.words.Task.TheVariants as Tasks
 
 abbrev pub is_strict : Task → Bool
-is_strict (Tasks.Arrange strict) = strict
+is_strict (Tasks.Arrange strict budget) = strict
 is_strict Tasks.Audit = false
 is_strict Tasks.Slices = false
 
@@ -26,12 +25,8 @@ abbrev pub request_by : Task → List ℕ → Option (List ℕ) → List (List �
 request_by task printer plan [] = Err (Refused Words.Usage)
 request_by task printer plan (mesh ∷ meshes) = Ok (record { task = task; printer = printer; plan = plan; meshes = mesh ∷ meshes })
 
-abbrev pub arrange_request : Bool → List ℕ → List (List ℕ) → Result Asked Misworded
-arrange_request strict printer meshes =
-    if length meshes == 1 then request_by (Tasks.Arrange strict) printer None meshes else Err NotBuilt
-
 abbrev pub request_of : Command → Result Asked Misworded
-request_of (Command.Arrange false strict budget printer meshes) = arrange_request strict printer meshes
+request_of (Command.Arrange false strict budget printer meshes) = request_by (Tasks.Arrange strict budget) printer None meshes
 request_of (Command.Audit printer plan meshes) = request_by Tasks.Audit printer (Some plan) meshes
 request_of (Command.Slices printer mesh) = request_by Tasks.Slices printer None (mesh ∷ [])
 request_of command = Err NotBuilt
@@ -49,17 +44,23 @@ pub record Asks (words : List (List ℕ)) (P : Asked → Type 0) : Type 0 where
   pub so : P asked
 
 abbrev pub NamesPlan : Task → Option (List ℕ) → Type 0
-NamesPlan (Tasks.Arrange strict) plan = plan ≡ None
+NamesPlan (Tasks.Arrange strict budget) plan = plan ≡ None
 NamesPlan Tasks.Audit plan = IsSome plan
 NamesPlan Tasks.Slices plan = plan ≡ None
 
 abbrev pub IsManyFor : Task → ℕ → Type 0
-IsManyFor (Tasks.Arrange strict) meshes = meshes ≡ 1
+IsManyFor (Tasks.Arrange strict budget) meshes = Unit {0}
 IsManyFor Tasks.Audit meshes = Unit {0}
 IsManyFor Tasks.Slices meshes = meshes ≡ 1
+
+abbrev pub IsBudgetFor : Task → Type 0
+IsBudgetFor (Tasks.Arrange strict budget) = (1 ≤ budget) × (budget ≤ 1_000_000)
+IsBudgetFor Tasks.Audit = Unit {0}
+IsBudgetFor Tasks.Slices = Unit {0}
 
 pub record IsRequest (a : Asked) : Type 0 where
   pub some : 1 ≤ length a.meshes
   pub few : length a.meshes ≤ 16
   pub plan : NamesPlan a.task a.plan
   pub many : IsManyFor a.task (length a.meshes)
+  pub budget : IsBudgetFor a.task

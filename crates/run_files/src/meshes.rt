@@ -64,7 +64,7 @@ fn noted(alloc: Global, task: Task, name: &str, mesh: &Mesh) -> Result<Items<u8>
     ensures why { IfErr result (IsUnlooked (is_strict task) mesh.now.facets) }
 {
     match task {
-        Task::Arrange { strict } => {
+        Task::Arrange { strict, budget: _ } => {
             let looks = looked(alloc, strict, mesh)?;
             Ok(note_of(alloc, name, &looks)?)
         }

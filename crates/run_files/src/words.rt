@@ -3,7 +3,7 @@ ghost use Rattle.seq_words.specs.declared.command.Command.{Command};
 ghost use Rattle.seq_words.specs.Usages.{texts};
 ghost use Rattle.seq_words.specs.declared.command.Words.{Words};
 ghost use Rattle.run_files.specs.Files.{name_in, name_or};
-ghost use Rattle.run_files.specs.Words.{IsRequest, arrange_request, request_by, request_of, requested};
+ghost use Rattle.run_files.specs.Words.{IsRequest, request_by, request_of, requested};
 
 use crate::NamedFile;
 use owned_lists::{Items, Text};
@@ -21,8 +21,9 @@ pub enum Misworded {
 /// What is to be done with the files.
 #[derive(Clone, Copy, PartialEq, Eq, Debug)]
 pub enum Task {
-    /// A strict run refuses a mesh that isn't closed or doesn't look outward.
-    Arrange { strict: bool },
+    /// A strict run refuses a mesh that isn't closed or doesn't look outward. A search has at most the budget of nodes, but for its last
+    /// split's children.
+    Arrange { strict: bool, budget: u64 },
     Audit,
     Slices,
 }
@@ -59,17 +60,6 @@ fn request_by(
     }
 }
 
-// What `arrange` asks for, so far of one mesh.
-fn request_to_arrange(strict: bool, printer: Text, meshes: Items<Text>) -> Result<Asked, Misworded>
-    ensures { result ≡ arrange_request strict printer meshes }
-{
-    if meshes.len() == 1 {
-        request_by(Task::Arrange { strict }, printer, None, meshes)
-    } else {
-        Err(Misworded::NotBuilt)
-    }
-}
-
 // What `slices` asks for.
 fn request_to_slice(alloc: Global, printer: Text, mesh: Text) -> Result<Asked, Misworded>
     ensures asked { IfOk result (λ a. request_of (Command.Slices printer mesh) ≡ Ok a) }
@@ -97,10 +87,10 @@ fn request_of(alloc: Global, command: Command) -> Result<Asked, Misworded>
         Command::Arrange {
             least: false,
             strict,
-            budget: _,
+            budget,
             printer,
             meshes,
-        } => request_to_arrange(strict, printer, meshes),
+        } => request_by(Task::Arrange { strict, budget }, printer, None, meshes),
         Command::Audit {
             printer,
             plan,

@@ -96,7 +96,7 @@ long R (a ∷ xs) [] z = absurd z
 long R (a ∷ xs) (b ∷ ys) z = ap suc (long R xs ys z.1)
 
 plan_for : (files : Option (List MemFile)) (task : Task) (named : Option (List ℕ)) (plan : Option PlanFile) → NamesPlan task named → HasNamedPlan files named plan → HasPlanFor task plan
-plan_for files (Tasks.Arrange strict) named plan n h = tt
+plan_for files (Tasks.Arrange strict budget) named plan n h = tt
 plan_for files Tasks.Slices named plan n h = tt
 plan_for files Tasks.Audit None plan n h = absurd (cc n)
 plan_for files Tasks.Audit (Some name) None n h = absurd h
@@ -105,6 +105,7 @@ plan_for files Tasks.Audit (Some name) (Some plan) n h = h.is.spelled
 pub can_work_on : (files : Option (List MemFile)) (a : Asked) (job : Job) (plan : Option PlanFile) (notes : List ℕ) → IsRequest a → IsLoaded files a job plan notes → CanWorkOn a.task job plan
 can_work_on files a job plan notes r l = record {
   many = subst (IsManyFor a.task) (long _ a.meshes l.inputs.meshes l.usable.each ∙ long _ l.inputs.meshes job.objects l.is_job.objects) r.many;
+  budget = r.budget;
   has_plan = subst (HasPlanFor a.task) (sym l.is_plan) (plan_for files a.task a.plan l.inputs.plan r.plan l.usable.plan);
 }
 

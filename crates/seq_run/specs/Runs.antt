@@ -2,11 +2,12 @@
 -- the run, `e` and `e'` what `err` did, `o` and `o'` what `out` did.
 --
 --   IsMisworded words s s' e e'          status 2: the words are refused, no file was started, and `err` took their line
---   IsAnswered v a s s' e e' o o'        status 0, 1 and 7: `err` took the notes, and `out` the whole text of an answer
+--   IsAnswered v a s s' e e' o o'        status 0, 1, 6 and 7: `err` took the notes, and `out` the whole text of an answer
 --   IsUnreadFile a s s' e e'             status 3: reading failed at this file that the words name, and `err` took its line
 --   IsWrongFile a s s' e e'              status 4: the first file that can't be used is refused, and `err` took its line
 --   IsUsable files a                     all files can be used
 --   HasNoPlan files a                    they can, and no plan is valid for them
+--   IsEnough job e budget, HasEnough files a   the budget is enough to decide the extent; and so for the job of the files
 --   HasFault files a                     they can, and the plan that is to be audited isn't valid for them
 --   WordsBroke, ErrBroke, OutBroke       status 8: a sink failed within the line of refused words; within the line of a stop or
 --                                        the notes of an answer; within its text
@@ -14,12 +15,16 @@
 --   IsWanting words s s' e e'            status 9: memory was wanting, and `err` took its line
 --   IsUnwritten words s s' e e' o o'     status 8: the three cases; `out` is written after `err`
 --   Ends words s s' e e' o o' status     what each status says
-use Rattle.std.specs.Prelude.{◌≡◌, ◌⊎◌, ℕ, Bool, List, Option, Some, Err}
+use Rattle.std.specs.Prelude.{◌≡◌, ◌⊎◌, ◌≤◌, ℕ, Bool, List, Option, Some, Err}
 use Rattle.plan_text.specs.declared.file.PlanFile.{PlanFile}
+use Rattle.refinement_loop.specs.Decisions.{HasNoWideWalk}
+use Rattle.run_files.specs.Jobs.{IsJobOf}
 use Rattle.seq_io.specs.Taken.{BrokeIn, Wrote}
 use Rattle.seq_io.specs.Views.{ShelfView, SinkView}
 use Rattle.seq_io.specs.declared.mem_file.MemFile.{MemFile}
+use Rattle.seq_model.specs.Budgets.{Full}
 use Rattle.seq_model.specs.Scenes.{Valid}
+use Rattle.seq_model.specs.declared.job.Job.{Job}
 use Rattle.seq_model.specs.declared.plan.Plan.{Plan}
 use Rattle.seq_words.specs.declared.command.Words.TheVariants.{NoMemory}
 use Rattle.run_files.specs.Files.{AreUsable, Inputs, name_in}
@@ -74,10 +79,27 @@ pub record IsUsable (files : Option (List MemFile)) (a : Asked) : Type 0 where
 -- the files can be used, and no plan is valid for them, on the whole plate or at a smaller extent
 pub record HasNoPlan (files : Option (List MemFile)) (a : Asked) : Type 0 where
   pub strict : Bool
-  pub arranges : a.task ≡ Arrange strict
+  pub budget : ℕ
+  pub arranges : a.task ≡ Arrange strict budget
   pub inputs : Inputs
   pub usable : AreUsable files a inputs
   pub none : (e : ℕ) (plan : Plan) → Valid (scene_of inputs) e plan → ⊥
+
+-- the budget is at least that which is always enough, and no walk of a path of the job ends wide
+pub record IsEnough (job : Job) (e budget : ℕ) : Type 0 where
+  pub full : ℕ
+  pub is_full : Full job full
+  pub within : full ≤ budget
+  pub narrow : HasNoWideWalk job e
+
+-- the files can be used, and the budget is enough for their job
+pub record HasEnough (files : Option (List MemFile)) (a : Asked) : Type 0 where
+  pub strict : Bool
+  pub budget : ℕ
+  pub arranges : a.task ≡ Arrange strict budget
+  pub inputs : Inputs
+  pub usable : AreUsable files a inputs
+  pub enough : (job : Job) → IsJobOf inputs.description inputs.meshes job → IsEnough job inputs.description.grid budget
 
 -- the files can be used, and the plan among them, that is to be audited, isn't valid on the whole plate
 pub record HasFault (files : Option (List MemFile)) (a : Asked) : Type 0 where

@@ -11,7 +11,6 @@
 //! the texts of `arrange` are spelt. It stands on `run_files`, which reads the words and the files, and on the crates that audit and write.
 #![tactic(auto)]
 
-mod arrange_text;
 mod planning;
 mod status;
 mod telling;

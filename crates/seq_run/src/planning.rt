@@ -1,16 +1,16 @@
-ghost use Rattle.std.specs.Prelude.{◌≡◌, Option, Some, length, IfOk};
+ghost use Rattle.std.specs.Prelude.{◌≡◌, ◌≤◌, Option, Some, length, IfOk};
 ghost use Rattle.plan_text.specs.PlanText.{IsPlanFile};
 ghost use Rattle.plan_text.specs.declared.file.PlanFile.{PlanFile};
 ghost use Rattle.run_files.specs.declared.words.Task.{Task};
-ghost use Rattle.seq_run.specs.Planning.{CanWorkOn, PrintsFor, verdict_of};
+ghost use Rattle.seq_run.specs.Planning.{CanWorkOn, PrintsFor, verdict_for, verdict_of};
 
 use crate::Verdict;
-use crate::arrange_text::{found_text, none_text};
 use audit_text::audit_text;
-use lone_object::place_alone;
+use decision_text::decision_text;
 use owned_lists::Items;
 use plan_audit::{Verdict as Audit, audit};
 use plan_text::PlanFile;
+use refinement_loop::{Decision, decide};
 use run_files::Task;
 use seq_model::Job;
 use seq_num::NoMemory;
@@ -24,30 +24,30 @@ pub struct Printed {
     pub text: Items<u8>,
 }
 
-// The plan of a job's one object, at the plate's low corner, or the certificate that there is none.
-fn arrange(alloc: Global, strict: bool, job: &Job) -> Result<Printed, NoMemory>
-    requires { length job.now.objects ≡ 1 }
-    ensures { (plan : Option PlanFile)
-        → IfOk result (λ p. PrintsFor (Task.Arrange strict) job.now plan p.verdict p.text) }
+fn verdict_for(decision: &Decision) -> Verdict
+    ensures { result ≡ verdict_for decision.now }
 {
-    let printer = &job.printer;
-    let object = &job.objects.as_slice()[0];
-    match place_alone(printer, &object.low, &object.high) {
-        Ok(place) => {
-            let text = Items::from_vec(found_text(alloc, printer.grid, place)?);
-            Ok(Printed {
-                verdict: Verdict::Done,
-                text,
-            })
-        }
-        Err(row) => {
-            let text = Items::from_vec(none_text(alloc, printer.grid, row)?);
-            Ok(Printed {
-                verdict: Verdict::NoPlan,
-                text,
-            })
-        }
+    match decision {
+        Decision::Found(_) => Verdict::Done,
+        Decision::Refuted(_) => Verdict::NoPlan,
+        Decision::Spent(_) | Decision::Wide(_, _) => Verdict::Undecided,
     }
+}
+
+// A plan of a job on the whole plate, a certificate that there is none, or why that is undecided.
+fn arrange(alloc: Global, strict: bool, budget: u64, job: &Job) -> Result<Printed, NoMemory>
+    requires { (1 ≤ budget) × (budget ≤ 1_000_000) }
+    ensures { (plan : Option PlanFile)
+        → IfOk result (λ p. PrintsFor (Task.Arrange strict budget) job.now plan p.verdict p.text) }
+{
+    let grid = job.printer.grid;
+    let decision = decide(alloc, job, grid, budget)?;
+    let verdict = verdict_for(&decision);
+    let text = decision_text(alloc, grid, decision)?;
+    Ok(Printed {
+        verdict,
+        text: Items::from_vec(text),
+    })
 }
 
 // The bands and outlines of a job's one object.
@@ -103,7 +103,7 @@ pub fn work_on(
     ensures { IfOk result (λ p. PrintsFor task job.now plan.now p.verdict p.text) }
 {
     match task {
-        Task::Arrange { strict } => arrange(alloc, strict, job),
+        Task::Arrange { strict, budget } => arrange(alloc, strict, budget, job),
         Task::Audit => match plan {
             Some(file) => audit_file(alloc, job, file),
             None => unreachable!(),

@@ -10,6 +10,8 @@ pub enum Verdict {
     Done,
     /// There is no plan.
     NoPlan,
+    /// The budget, or the width of numbers, left it undecided.
+    Undecided,
     /// The plan that was given isn't valid.
     Fault,
 }
@@ -31,6 +33,7 @@ fn code_of_verdict(verdict: Verdict) -> u8
     match verdict {
         Verdict::Done => 0,
         Verdict::NoPlan => 1,
+        Verdict::Undecided => 6,
         Verdict::Fault => 7,
     }
 }

@@ -8,6 +8,7 @@ use Rattle.std.proofs.Common.{◌≡◌, ℕ, zero, suc, ◌<◌, ◌≤◌, ℤ
 use Rattle.mesh_checks.specs.Edges.{open_edges}
 use Rattle.mesh_checks.specs.Verdicts.{IsClosedOutward}
 use Rattle.mesh_checks.specs.Volumes.{six_volume}
+use Rattle.mesh_slices.specs.Objects.{IsObjectOf}
 use Rattle.plan_text.specs.Reading.{plan_answer}
 use Rattle.plan_text.specs.declared.file.PlanFile.{PlanFile}
 use Rattle.plan_text.specs.declared.reading.PlanRead.{PlanRead}
@@ -18,11 +19,14 @@ use Rattle.seq_io.specs.declared.mem_file.MemFile.{MemFile}
 use Rattle.seq_model.specs.Bands.{band_count}
 use Rattle.seq_model.specs.Scenes.{Description}
 use Rattle.seq_model.specs.declared.mesh.Facet.{Facet}
+use Rattle.seq_model.specs.declared.job.Object.{Object}
+use Rattle.seq_model.specs.declared.printer.Printer.{Printer}
 use Rattle.std.specs.List.{AllZip}
 use Rattle.stl_text.specs.Laws.Meshes.{one_mesh, refused_no_mesh}
 use Rattle.stl_text.specs.Meshes.{MeshOf}
 use Rattle.run_files.specs.Causes.{IsRefusedMesh, IsRefusedPlan, IsUnfitFile, Refuses}
 use Rattle.run_files.specs.Files.{AreUsable, HasNamedPlan, Inputs, IsMeshFile, IsPrinterFile, IsUsableMesh, NamedMesh, StatesPlan, facets_of, mesh_limit, name_or, plan_limit, printer_limit}
+use Rattle.run_files.specs.Jobs.{IsObjectFor}
 use Rattle.run_files.specs.Words.{is_strict}
 use Rattle.run_files.specs.declared.stop.Cause.{Cause}
 use Rattle.run_files.specs.declared.stop.Cause.TheVariants as Causes
@@ -146,6 +150,24 @@ facets-one files strict other step width (x ∷ xs) (m ∷ ms) [] p q = absurd q
 facets-one files strict other step width (x ∷ xs) (m ∷ ms) (n ∷ ns) p q =
     ap (λ f. f ∷ facets_of ms) (mesh_file-one files x m.facets n.facets m.dropped n.dropped p.0.is q.0.is) ∙ ap (λ fs. n.facets ∷ fs) (facets-one files strict other step width xs ms ns p.1 q.1)
 
+-- so an object of one is an object of the other
+same_object : (files : List MemFile) (strict other : Bool) (step width : ℤ) (name : List ℕ) (m n : NamedMesh) (printer : Printer) (o : Object) → IsUsableMesh (Some files) strict step name m → IsUsableMesh (Some files) other width name n
+    → IsObjectFor printer m o → IsObjectFor printer n o
+same_object files strict other step width name m n printer o u v is =
+    subst (λ x. IsObjectOf x n.facets printer o) (u.named ∙ sym v.named)
+    (subst (λ fs. IsObjectOf m.name fs printer o) (mesh_file-one files name m.facets n.facets m.dropped n.dropped u.is v.is) is)
+
+same_objects : (files : List MemFile) (strict other : Bool) (step width : ℤ) (names : List (List ℕ)) (ms ns : List NamedMesh) → AllZip (IsUsableMesh (Some files) strict step) names ms → AllZip (IsUsableMesh (Some files) other width) names ns
+    → (printer : Printer) (objects : List Object) → AllZip (IsObjectFor printer) ms objects → AllZip (IsObjectFor printer) ns objects
+same_objects files strict other step width [] [] [] p q printer objects z = z
+same_objects files strict other step width [] [] (n ∷ ns) p q printer objects z = absurd q
+same_objects files strict other step width [] (m ∷ ms) ns p q printer objects z = absurd p
+same_objects files strict other step width (x ∷ xs) [] ns p q printer objects z = absurd p
+same_objects files strict other step width (x ∷ xs) (m ∷ ms) [] p q printer objects z = absurd q
+same_objects files strict other step width (x ∷ xs) (m ∷ ms) (n ∷ ns) p q printer [] z = absurd z
+same_objects files strict other step width (x ∷ xs) (m ∷ ms) (n ∷ ns) p q printer (o ∷ objects) z =
+    (same_object files strict other step width x m n printer o p.0 q.0 z.0, same_objects files strict other step width xs ms ns p.1 q.1 printer objects z.1)
+
 plans-one : (files : List MemFile) (named : Option (List ℕ)) (p q : Option PlanFile) → HasNamedPlan (Some files) named p → HasNamedPlan (Some files) named q → p ≡ q
 plans-one files None None None h k = refl
 plans-one files None None (Some q) h k = absurd k
@@ -154,15 +176,17 @@ plans-one files (Some name) None q h k = absurd h
 plans-one files (Some name) (Some p) None h k = absurd k
 plans-one files (Some name) (Some p) (Some q) h k = ap Some (stated_plan-one files name p q h k)
 
--- what two say of the same files, but for the names of their meshes and their dropped facets
+-- what two say of the same files
 pub record SameInputs (x y : Inputs) : Type 0 where
   pub description : x.description ≡ y.description
   pub plan : x.plan ≡ y.plan
   pub facets : facets_of x.meshes ≡ facets_of y.meshes
+  pub objects : (printer : Printer) (objects : List Object) → AllZip (IsObjectFor printer) x.meshes objects → AllZip (IsObjectFor printer) y.meshes objects
 
 pub same_inputs : (files : List MemFile) (a : Asked) (x y : Inputs) → AreUsable (Some files) a x → AreUsable (Some files) a y → SameInputs x y
 same_inputs files a x y u v = record {
   description = printer_file-one files a.printer x.description y.description u.printer v.printer;
   plan = plans-one files a.plan x.plan y.plan u.plan v.plan;
   facets = facets-one files (is_strict a.task) (is_strict a.task) x.description.step y.description.step a.meshes x.meshes y.meshes u.each v.each;
+  objects = same_objects files (is_strict a.task) (is_strict a.task) x.description.step y.description.step a.meshes x.meshes y.meshes u.each v.each;
 }

@@ -2,7 +2,7 @@ use Rattle.std.proofs.Common.{◌≡◌, ℕ, ◌∷◌, [], sym, subst}
 use Rattle.seq_io.specs.Views.{ShelfView, SinkView}
 use Rattle.seq_words.specs.Usages.{texts}
 use Rattle.seq_run.specs.Statuses.{IsOneOf}
-use Rattle.seq_run.proofs.Ended.{E, at_number, calm, ends_once, err_calm, fault_always, input_always, input_only, none_always, out_calm, silent, status_at, words_always}
+use Rattle.seq_run.proofs.Ended.{E, at_number, calm, decided_always, ends_once, err_calm, fault_always, input_always, input_only, none_always, out_calm, silent, status_at, words_always}
 use Rattle.seq_run.proofs.top.run.Goals as goal
 
 pub returns : goal.returns
@@ -20,10 +20,12 @@ returns g c =
     let ends = c.end.ensures in
     let by : (m : ℕ) → n ≡ m → E words s s' e e' o o' (status_at m) = λ m is. at_number (E words s s' e e' o o') status n m code is ends in
     record {
-      statuses = subst (IsOneOf (0 ∷ 1 ∷ 2 ∷ 3 ∷ 4 ∷ 7 ∷ 8 ∷ 9 ∷ [])) (sym code) (ends_once status);
+      statuses = subst (IsOneOf (0 ∷ 1 ∷ 2 ∷ 3 ∷ 4 ∷ 6 ∷ 7 ∷ 8 ∷ 9 ∷ [])) (sym code) (ends_once status);
       found = λ is. by 0 is;
       none = λ is. by 1 is;
-      none_always = λ files told asks. subst (IsOneOf (1 ∷ 3 ∷ 8 ∷ 9 ∷ [])) (sym code) (none_always words s s' e e' o o' status ends files told asks);
+      none_always = λ files told asks. subst (IsOneOf (1 ∷ 3 ∷ 6 ∷ 8 ∷ 9 ∷ [])) (sym code) (none_always words s s' e e' o o' status ends files told asks);
+      undecided = λ is. by 6 is;
+      decided_always = λ files told asks. subst (IsOneOf (0 ∷ 1 ∷ 3 ∷ 8 ∷ 9 ∷ [])) (sym code) (decided_always words s s' e e' o o' status ends files told asks);
       fault = λ is. by 7 is;
       fault_always = λ files told asks. subst (IsOneOf (3 ∷ 7 ∷ 8 ∷ 9 ∷ [])) (sym code) (fault_always words s s' e e' o o' status ends files told asks);
       words = λ is. (by 2 is).0;

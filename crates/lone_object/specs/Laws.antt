@@ -1,3 +1,0 @@
--- Lemmas over the definitions, for proofs to cite: nothing here has to be believed.
-pub mod Alone
-pub mod Overhanging
