@@ -1,11 +1,9 @@
 -- The files and blocks of what a search claims, judged.
-use Rattle.std.proofs.Common.{◌≡◌, inl, inr, ℕ, zero, suc, ◌-◌, ◌≤◌, List, [], ◌∷◌, Option, Some, None, refl, sym, subst, arith}
-use Rattle.cert_text.specs.declared.block.Head.{Head}
+use Rattle.std.proofs.Common.{inr, ℕ, zero, suc, ◌-◌, ◌≤◌, [], ◌∷◌, Option, Some, None, refl, sym, subst, arith}
 use Rattle.claim_checker.specs.Claims.{IsBlockClaim, IsClaim}
 use Rattle.claim_checker.specs.declared.verdict.Claim.TheVariants as Claims
 use Rattle.decision_text.specs.DecisionText.{block_below, block_for, block_of, excludes, file_for, file_of}
 use Rattle.model_laws.specs.Laws.Reading.{reads_weaker}
-use Rattle.plan_text.specs.declared.file.State.TheVariants as States
 use Rattle.plate_shrink.specs.Outcomes.{ExcludesBelow, IsOutcome}
 use Rattle.plate_shrink.specs.declared.outcome.Outcome.TheVariants as Outcomes
 use Rattle.refinement_loop.specs.Decisions.{IsRefutation}
