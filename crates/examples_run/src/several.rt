@@ -12,7 +12,14 @@ const TWO: &[&str] = &["arrange", "p0.toml", "a.stl", "a.stl"];
 
 const TWO_BY_ONE: &[&str] = &["arrange", "--budget", "1", "p0.toml", "a.stl", "a.stl"];
 
-const THREE: &[&str] = &["arrange", "--budget=200", "p0.toml", "a.stl", "a.stl", "a.stl"];
+const THREE: &[&str] = &[
+    "arrange",
+    "--budget=200",
+    "p0.toml",
+    "a.stl",
+    "a.stl",
+    "a.stl",
+];
 
 const FOUND: &[u8] = b"seqplan 1\nstate found\ngrid 100\nextent 100\nscale ";
 
@@ -40,7 +47,10 @@ fn see_begin(
 ) -> Result<(), Fail> {
     let mesh = file_of(alloc, &Mesh::Block(20))?;
     let done = outcome_of(alloc, printer, mesh, words)?;
-    assert_eq!(rt; (done.status, done.out.taken().starts_with(begin)), (status, true));
+    assert_eq!(rt;
+        (done.status, done.out.taken().starts_with(begin)),
+        (status, true)
+    );
     Ok(())
 }
 
@@ -59,5 +69,13 @@ fn a_plan_that_is_found_is_good(rt: HostRuntime) -> Result<(), Fail> {
     let plan = Vec::from_slice(rt.alloc(), done.out.taken())?;
     let words = ["audit", "p0.toml", "plan.txt", "a.stl", "a.stl"];
     let seen = (0, b"audit good\n".as_slice(), b"".as_slice());
-    see_plan(&rt, rt.alloc(), WITH_PARTS, plan, &Mesh::Block(20), &words, seen)
+    see_plan(
+        &rt,
+        rt.alloc(),
+        WITH_PARTS,
+        plan,
+        &Mesh::Block(20),
+        &words,
+        seen,
+    )
 }
