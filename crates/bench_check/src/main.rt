@@ -94,7 +94,7 @@ fn objects(
     ensures sound { IfOk result (λ o. IfSome o (All IsSoundObject)) }
 {
     let mut objects = Items::new(alloc);
-    for _ in 0..16 {
+    for _ in 0..16u32 {
         let Ok(object) = object(alloc, "octagons", mesh, printer) else {
             return Ok(None);
         };
@@ -134,7 +134,7 @@ fn put_bound(to: &mut Vec<u8>, row: u32) -> Result<(), AllocError> {
 fn splits(alloc: Global, count: u32) -> Result<Vec<u8>, AllocError> {
     let mut text = Vec::from_slice(alloc, b"certificate 1\nexcludes 1\n")?;
     for i in 0..16u32 {
-        for j in i + 1..16 {
+        for j in i + 1..16u32 {
             text.extend_from_slice(b"order")?;
             put_numbers(&mut text, &[i, j])?;
         }

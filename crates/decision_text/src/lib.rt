@@ -15,3 +15,6 @@ mod writing;
 pub use laws::{a_decision_has_a_text, an_outcome_has_a_text};
 pub use statement::Statement;
 pub use writing::{decision_text, outcome_text};
+
+#[cfg(test)]
+mod tests;

@@ -1,7 +1,7 @@
-ghost use Rattle.std.specs.Prelude.{◌≡◌, Some};
-ghost use Rattle.cert_text.specs.declared.block.Head.{Head};
+ghost use Rattle.std.specs.Prelude.{◌≡◌};
 ghost use Rattle.decision_text.specs.DecisionText.{block_below, block_of_cause, excludes, open_state, placed, statement_for, statement_of, tried, tried_wide, undecided_state};
 ghost use Rattle.plan_text.specs.Reading.{bare};
+ghost use Rattle.refinement_loop.specs.declared.deciding.Decision.TheVariants.{Refuted};
 
 use cert_text::{Head, Kind};
 use owned_lists::Items;
@@ -74,6 +74,15 @@ fn tried_wide(extent: u32, note: WideNote) -> Head
     }
 }
 
+fn no_plan(alloc: Global, grid: u32, tree: Tree) -> Statement
+    ensures { result ≡ statement_of grid (Refuted tree) }
+{
+    Statement {
+        file: bare(alloc, State::NoPlan, grid),
+        block: Some((excludes(grid), tree)),
+    }
+}
+
 /// What is stated of a decision of the whole plate.
 pub fn statement_of(alloc: Global, grid: u32, decision: Decision) -> Statement
     ensures { result ≡ statement_of grid decision }
@@ -83,10 +92,7 @@ pub fn statement_of(alloc: Global, grid: u32, decision: Decision) -> Statement
             file: placed(State::Found, grid, grid, plan),
             block: None,
         },
-        Decision::Refuted(tree) => Statement {
-            file: bare(alloc, State::NoPlan, grid),
-            block: Some((excludes(grid), tree)),
-        },
+        Decision::Refuted(tree) => no_plan(alloc, grid, tree),
         Decision::Spent(tree) => Statement {
             file: bare(alloc, State::UndecidedBudget, grid),
             block: Some((tried(grid), tree)),
@@ -143,10 +149,7 @@ pub fn statement_for(alloc: Global, grid: u32, outcome: Outcome) -> Statement
             file: placed(State::Least, grid, extent, plan),
             block: block_below(extent, tree),
         },
-        Outcome::NoPlan(tree) => Statement {
-            file: bare(alloc, State::NoPlan, grid),
-            block: Some((excludes(grid), tree)),
-        },
+        Outcome::NoPlan(tree) => no_plan(alloc, grid, tree),
         Outcome::Unproved {
             plan,
             extent,

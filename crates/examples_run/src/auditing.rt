@@ -6,8 +6,13 @@ const TWO: &[&str] = &["audit", "p0.toml", "plan.txt", "a.stl", "a.stl"];
 
 const ONE: &[&str] = &["audit", "p0.toml", "plan.txt", "a.stl"];
 
+const SIXTEEN: &[&str] = &[
+    "audit", "p0.toml", "plan.txt", "a.stl", "a.stl", "a.stl", "a.stl", "a.stl", "a.stl", "a.stl",
+    "a.stl", "a.stl", "a.stl", "a.stl", "a.stl", "a.stl", "a.stl", "a.stl", "a.stl",
+];
+
 // A printer, a plan, a mesh and words, and the status, the text and the line on `err`.
-static AUDITED: [(&[u8], &[u8], Mesh, &[&str], u8, &[u8], &[u8]); 14] = [
+static AUDITED: [(&[u8], &[u8], Mesh, &[&str], u8, &[u8], &[u8]); 18] = [
     // two cubes touch: each is 22 wide with its margin, and the nozzle reaches 2 further
     (
         WITH_PARTS,
@@ -74,6 +79,35 @@ static AUDITED: [(&[u8], &[u8], Mesh, &[&str], u8, &[u8], &[u8]); 14] = [
         b"audit stray 1\n",
         b"",
     ),
+    // the gantry begins two bands above the tip
+    (
+        WITH_PARTS,
+        b"seqplan 1\nstate found\ngrid 100\nextent 100\nscale 1\nplace 0 1 1\nplace 1 25 1\n",
+        Mesh::Block(30),
+        TWO,
+        7,
+        b"audit collides 0 1 bands 2 0 part 2 gantry\n",
+        b"",
+    ),
+    (
+        PLATE,
+        b"seqplan 1\nstate found\ngrid 100\nextent 100\nscale 1\nplace 1 40 1\nplace 0 0 1\n",
+        Mesh::Block(20),
+        TWO,
+        7,
+        b"audit offplate 1 0\n",
+        b"",
+    ),
+    // four rows of four cubes
+    (
+        PLATE,
+        b"seqplan 1\nstate found\ngrid 100\nextent 100\nscale 1\nplace 15 1 1\nplace 14 25 1\nplace 13 49 1\nplace 12 73 1\nplace 11 1 25\nplace 10 25 25\nplace 9 49 25\nplace 8 73 25\nplace 7 1 49\nplace 6 25 49\nplace 5 49 49\nplace 4 73 49\nplace 3 1 73\nplace 2 25 73\nplace 1 49 73\nplace 0 73 73\n",
+        Mesh::Block(20),
+        SIXTEEN,
+        0,
+        b"audit good\n",
+        b"",
+    ),
     // a plan of another grid, which is audited on the whole plate; the block that is due behind it stays unread
     (
         WITH_PARTS,
@@ -107,6 +141,15 @@ static AUDITED: [(&[u8], &[u8], Mesh, &[&str], u8, &[u8], &[u8]); 14] = [
     (
         PLATE,
         b"seqplan 1\nstate found\ngrid 100\nextent 100\nscale 1\nplace 0 1 1",
+        Mesh::Block(20),
+        ONE,
+        4,
+        b"",
+        b"input: plan.txt: plan ends early\n",
+    ),
+    (
+        PLATE,
+        b"seqplan 1\n",
         Mesh::Block(20),
         ONE,
         4,

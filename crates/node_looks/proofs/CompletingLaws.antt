@@ -1,14 +1,14 @@
 -- What an order of all objects and a cycle of them show, where no candidate is left.
-use Rattle.std.proofs.Common.{◌≡◌, ◌≢◌, ℕ, ◌+◌, ◌*◌, ◌<◌, ◌≤◌, List, [], ◌∷◌, ◌++◌, length, get_or, take, drop, All, Contains, Bool, true, false, refl, sym, ap, subst, ◌∙◌, arith, inl, inr, ◌⊎◌}
+use Rattle.std.proofs.Common.{◌≡◌, ◌≢◌, ℕ, ◌<◌, ◌≤◌, List, ◌++◌, length, get_or, take, drop, All, Contains, Bool, true, false, refl, sym, subst, arith, inl, inr}
 use Rattle.std.proofs.lemmas.List.Elements.{All-append, All-contains, AllZip-get_or, Contains-append_left, Contains-append_right, Contains-get_or}
 use Rattle.node_looks.proofs.OrderLaws.{cycle_of, not_on, on_path}
 use Rattle.node_looks.proofs.SurveyLaws.{survey_forces}
 use Rattle.node_looks.specs.Candidates.{AreSettled, IsForcedOrder}
-use Rattle.node_looks.specs.Held.{HoldsOrders, IsOrderOf}
-use Rattle.object_orders.specs.Orders.{Graph, IsAmong, AreAmong, IsOrder, IsSimpleCycle}
+use Rattle.node_looks.specs.Held.{HoldsOrders}
+use Rattle.object_orders.specs.Orders.{Graph, IsAmong, IsOrder, IsSimpleCycle}
 use Rattle.plan_laws.specs.Laws.Looking.{cycle_earns_each, order_is_valid}
 use Rattle.plan_laws.specs.Laws.OnPath.{is_before}
-use Rattle.plan_laws.specs.Looking.{AreForced, AreLooked, Causes, IsLooked, IsOnOrEarned, OnPath}
+use Rattle.plan_laws.specs.Looking.{AreForced, Causes, IsLooked, IsOnOrEarned}
 use Rattle.plan_laws.specs.Ordered.{plan_of}
 use Rattle.seq_model.specs.Jobs.{scene_of_job}
 use Rattle.seq_model.specs.Scenes.{Valid}

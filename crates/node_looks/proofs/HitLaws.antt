@@ -1,61 +1,24 @@
 -- What the contacts of two objects show.
-use Rattle.std.proofs.Common.{◌≡◌, ◌≢◌, ℕ, ◌<◌, List, [], ◌∷◌, length, Contains, Option, Some, None, MatchOption, IsNone, ◌↔◌, refl, sym, ap, ap₂, subst, ◌∙◌, arith, ℤ, inl, inr, ◌⊎◌}
+use Rattle.std.proofs.Common.{◌≡◌, ℕ, ◌<◌, List, [], ◌∷◌, length, Option, Some, None, MatchOption, refl, sym, ap, subst, arith, inl, inr, ◌⊎◌}
 use Rattle.integer_laws.specs.Laws.Members.{Contains-from_in}
-use Rattle.node_looks.specs.Candidates.{IsCandidate, IsHit, IsForcedOrder, IsSettled, IsPairLook}
+use Rattle.node_looks.specs.Candidates.{IsCandidate, IsHit, IsPairLook}
+use Rattle.node_looks.specs.declared.hits.Hit.{Hit}
 use Rattle.node_looks.specs.declared.survey.Candidate.TheVariants as Candidates
 use Rattle.node_looks.specs.declared.survey.PairLook.TheVariants as PairLooks
-use Rattle.pair_constraints.specs.FirstContacts.{IsFirst, CollidesBetween, ComesBefore}
 use Rattle.pair_constraints.specs.Laws.Pairs.{a_collision}
-use Rattle.plan_laws.specs.Inside.{place_at}
 use Rattle.plan_laws.specs.Looking.{OnPath}
 use Rattle.seq_model.specs.Contacts.{ContactCollides}
-use Rattle.seq_model.specs.Jobs.{scene_of_job}
-use Rattle.seq_model.specs.Points.{Point, place_point}
-use Rattle.seq_model.specs.Scenes.{Collides}
 use Rattle.seq_model.specs.Splits.{Values, CollidesAt, IsUnordered}
 use Rattle.seq_model.specs.Systems.{place_of}
 use Rattle.seq_model.specs.declared.job.Job.{Job}
-use Rattle.seq_model.specs.declared.plan.Place.{Place}
 use Rattle.seq_model.specs.declared.tree.Choice.{Choice}
 use Rattle.seq_model.specs.declared.tree.Contact.{Contact}
 
--- ---- the first contact
-hit_at : (job : Job) (e : ℕ) (at : Values) (i j : ℕ) (p q : Point) (r : Option Contact) → p ≡ place_of job e at.d at.u i → q ≡ place_of job e at.d at.u j
-    → IsFirst (CollidesBetween job i j p q) ComesBefore r → (IsNone r ↔ (Collides (scene_of_job job) i p j q → ⊥)) → MatchOption r (CollidesAt job e at i j → ⊥) (IsHit job e at i j)
-hit_at job e at i j p q None here there first none = λ hits. none.0 refl (subst (λ t. Collides (scene_of_job job) i t j q) (sym here) (subst (λ t. Collides (scene_of_job job) i (place_of job e at.d at.u i) j t) (sym there) hits))
-hit_at job e at i j p q (Some c) here there first none =
-    let f = first.0 in
-    let a : p ≡ place_of job e at.d at.u c.i = here ∙ ap (place_of job e at.d at.u) (sym f.0) in
-    let b : q ≡ place_of job e at.d at.u c.j = there ∙ ap (place_of job e at.d at.u) (sym f.1) in
-    (f.0, f.1, subst (λ t. ContactCollides job c t (place_of job e at.d at.u c.j)) a (subst (λ t. ContactCollides job c p t) b f.2))
-
-pub hit_is : (job : Job) (e : ℕ) (at : Values) (i j : ℕ) (earlier later : Place) (scale : ℤ) (r : Option Contact)
-    → earlier ≡ place_at job e at.d at.u i → later ≡ place_at job e at.d at.u j → scale ≡ at.d
-    → IsFirst (CollidesBetween job earlier.object later.object (place_point scale earlier) (place_point scale later)) ComesBefore r
-    → (IsNone r ↔ (Collides (scene_of_job job) earlier.object (place_point scale earlier) later.object (place_point scale later) → ⊥))
-    → MatchOption r (CollidesAt job e at i j → ⊥) (IsHit job e at i j)
-hit_is job e at i j earlier later scale r here there same first none =
-    hit_at job e at i j (place_point scale earlier) (place_point scale later) r (ap₂ place_point same here) (ap₂ place_point same there)
-    (subst (λ t. IsFirst (CollidesBetween job t j p q) ComesBefore r) first_is (subst (λ t. IsFirst (CollidesBetween job earlier.object t p q) ComesBefore r) second_is first))
-    (subst (λ t. IsNone r ↔ (Collides (scene_of_job job) t p j q → ⊥)) first_is (subst (λ t. IsNone r ↔ (Collides (scene_of_job job) earlier.object p t q → ⊥)) second_is none))
-  where
-    p : Point
-    p = place_point scale earlier
-
-    q : Point
-    q = place_point scale later
-
-    first_is : earlier.object ≡ i
-    first_is = ap (λ (x : Place). x.object) here
-
-    second_is : later.object ≡ j
-    second_is = ap (λ (x : Place). x.object) there
-
 -- ---- a pair that is ordered on the path
-pub hit_candidate : (job : Job) (e : ℕ) (path : List Choice) (at : Values) (i j : ℕ) (r : Option Contact) → OnPath path i j → MatchOption r (CollidesAt job e at i j → ⊥) (IsHit job e at i j)
-    → MatchOption r (OnPath path i j → CollidesAt job e at i j → ⊥) (λ c. IsCandidate job e path at (Candidates.Side c))
+pub hit_candidate : (job : Job) (e : ℕ) (path : List Choice) (at : Values) (i j : ℕ) (r : Option Hit) → OnPath path i j → MatchOption r (CollidesAt job e at i j → ⊥) (λ h. IsHit job e at i j h.contact)
+    → MatchOption r (OnPath path i j → CollidesAt job e at i j → ⊥) (λ h. IsCandidate job e path at (Candidates.Side h.contact))
 hit_candidate job e path at i j None on h = λ _. h
-hit_candidate job e path at i j (Some c) on h = (subst (λ t. OnPath path t c.j) (sym h.0) (subst (OnPath path i) (sym h.1) on), h.2)
+hit_candidate job e path at i j (Some c) on h = (subst (λ t. OnPath path t c.contact.j) (sym h.0) (subst (OnPath path i) (sym h.1) on), h.2)
 
 never_unordered : (path : List Choice) (i j : ℕ) → OnPath path i j ⊎ OnPath path j i → IsUnordered path i j → ⊥
 never_unordered path i j (inl on) free = free.0 on
@@ -110,16 +73,16 @@ hit_collides job e at i j c h =
     a_collision job i j (place_of job e at.d at.u i) (place_of job e at.d at.u j) c
     (h.0, h.1, subst (λ t. ContactCollides job c t (place_of job e at.d at.u j)) (ap (place_of job e at.d at.u) h.0) (subst (λ t. ContactCollides job c (place_of job e at.d at.u c.i) t) (ap (place_of job e at.d at.u) h.1) h.2))
 
-pub hit_some : (job : Job) (e : ℕ) (at : Values) (i j : ℕ) (r : Option Contact) (c : Contact) → MatchOption r (CollidesAt job e at i j → ⊥) (IsHit job e at i j) → r ≡ Some c → CollidesAt job e at i j
+pub hit_some : (job : Job) (e : ℕ) (at : Values) (i j : ℕ) (r : Option Hit) (c : Hit) → MatchOption r (CollidesAt job e at i j → ⊥) (λ h. IsHit job e at i j h.contact) → r ≡ Some c → CollidesAt job e at i j
 hit_some job e at i j None c h same = absurd (none_some same)
   where
-    none_some : {x : Contact} → None ≡ Some x → ⊥
+    none_some : {x : Hit} → None ≡ Some x → ⊥
     none_some e = cc
-hit_some job e at i j (Some d) c h same = hit_collides job e at i j d h
+hit_some job e at i j (Some d) c h same = hit_collides job e at i j d.contact h
 
-pub hit_none : (job : Job) (e : ℕ) (at : Values) (i j : ℕ) (r : Option Contact) → MatchOption r (CollidesAt job e at i j → ⊥) (IsHit job e at i j) → r ≡ None → CollidesAt job e at i j → ⊥
+pub hit_none : (job : Job) (e : ℕ) (at : Values) (i j : ℕ) (r : Option Hit) → MatchOption r (CollidesAt job e at i j → ⊥) (λ h. IsHit job e at i j h.contact) → r ≡ None → CollidesAt job e at i j → ⊥
 hit_none job e at i j None h same = h
 hit_none job e at i j (Some d) h same = absurd (some_none same)
   where
-    some_none : {x : Contact} → Some x ≡ None → ⊥
+    some_none : {x : Hit} → Some x ≡ None → ⊥
     some_none e = cc

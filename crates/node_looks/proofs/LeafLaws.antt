@@ -1,9 +1,9 @@
 -- What the solver's answers show at a node: a contradiction of a path's rows closes it, as a line of a certificate; a point is one of the path.
-use Rattle.std.proofs.Common.{◌≡◌, ℕ, suc, ◌+◌, ◌*◌, ◌<◌, ◌≤◌, ◌^◌, List, [], ◌∷◌, length, map, All, get_or, refl, sym, ap, ap₂, subst, ◌∙◌, arith, ℤ, pos, negsuc, ◌≤ℤ◌, ◌<ℤ◌}
+use Rattle.std.proofs.Common.{◌≡◌, ℕ, suc, ◌+◌, ◌*◌, ◌<◌, ◌≤◌, ◌^◌, List, [], ◌∷◌, length, map, All, refl, sym, ap, ap₂, subst, ◌∙◌, arith, ℤ, pos, negsuc, ◌≤ℤ◌, ◌<ℤ◌}
 use Rattle.std.proofs.lemmas.Int.{ints}
 use Rattle.std.proofs.lemmas.List.{length-map}
 use Rattle.std.proofs.lemmas.List.Elements.{All-nil, All-cons, All-head, All-tail}
-use Rattle.cert_text.specs.TreeText.{AreRising, IsBoundLine, IsSpeltMult, pair_of, row_of}
+use Rattle.cert_text.specs.TreeText.{AreRising, pair_of, row_of}
 use Rattle.cert_text.specs.declared.pairs.Pair.{Pair}
 use Rattle.feasible_point.specs.Shortening.{AreShortest}
 use Rattle.integer_laws.specs.Vectors.{zeros}
@@ -54,12 +54,15 @@ pub bound_closes : (job : Job) (e : ℕ) (path : List Choice) (mults : List Mult
 bound_closes job e path mults short is rises times some few shortest = record {
   is_leaf = tt;
   sound = is;
-  spelt = (record {
-    some = omega (arith, some, many);
-    few = omega (arith, few, many, objects);
-    rising = rising_from (length (system job e path)) (negsuc 0) mults rises (above_all mults);
-    times = times_of mults times;
-  }, λ k d l. let r = (is.each k d l).row in record { row = omega (arith, r, count); times = shortest.1 k d l });
+  spelt = (
+    record {
+      some = omega (arith, some, many);
+      few = omega (arith, few, many, objects);
+      rising = rising_from (length (system job e path)) (negsuc 0) mults rises (above_all mults);
+      times = times_of mults times;
+    },
+    λ k d l. let r = (is.each k d l).row in record { row = omega (arith, r, count); times = shortest.1 k d l },
+  );
 }
   where
     many : length (map pair_of mults) ≡ length mults

@@ -2,9 +2,11 @@ pub mod CompletingLaws
 pub mod HitLaws
 pub mod LeafLaws
 pub mod OrderLaws
+pub mod PairLaws
 pub mod RegionLaws
 pub mod RowLaws
 pub mod Scaling
 pub mod SplitLaws
 pub mod SurveyLaws
+pub mod VisitLaws
 pub mod ZeroLaws

@@ -42,14 +42,14 @@ or_true : (a : Bool) → (a || true) ≡ true
 or_true true = refl
 or_true false = refl
 
-differs : (a b : ℕ) → a ≢ b → eqb a b ≡ false
+pub differs : (a b : ℕ) → a ≢ b → eqb a b ≡ false
 differs a b ne = by (eqb a b) refl
   where
     by : (t : Bool) → eqb a b ≡ t → eqb a b ≡ false
     by true e = absurd (ne (eqb-true a b e))
     by false e = e
 
-eqb_never : (a b : ℕ) → a ≡ b → eqb a b ≡ false → ⊥
+pub eqb_never : (a b : ℕ) → a ≡ b → eqb a b ≡ false → ⊥
 eqb_never a b e f = never (eqb a b) (eq-eqb a b e) f
 
 and_false : (a : Bool) → (a && false) ≡ false

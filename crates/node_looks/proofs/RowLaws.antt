@@ -1,7 +1,7 @@
 -- The rows of a path, one object or choice more.
 use Rattle.std.proofs.Common.{◌≡◌, ℕ, suc, ◌+◌, ◌*◌, ◌<◌, ◌≤◌, ◌^◌, List, [], ◌∷◌, ◌++◌, length, get_or, take, drop, All, refl, sym, ap, subst, ◌∙◌, arith, append_assoc, drop-cons, add-one, ℤ, pos, ◌-ℤ◌, ◌≤ℤ◌, unsigned_abs}
 use Rattle.std.proofs.lemmas.Int.{ints}
-use Rattle.std.proofs.lemmas.List.{take-append-drop, get_or_default}
+use Rattle.std.proofs.lemmas.List.{take-append-drop}
 use Rattle.node_looks.specs.Rows.{IsSideOf}
 use Rattle.plan_laws.specs.Inside.{region_at}
 use Rattle.plan_laws.specs.Laws.PathRows.{many_rows}
@@ -9,7 +9,6 @@ use Rattle.plan_laws.specs.Members.{side_count}
 use Rattle.row_dictionary.specs.Scans.{IsSmallRow}
 use Rattle.row_pivots.specs.Tables.{AreRowsOf}
 use Rattle.search_laws.specs.Laws.RowSizes.{contact_side_size, share_low, share_high, small_rows}
-use Rattle.search_laws.specs.Sizes as Sizes
 use Rattle.seq_model.specs.Contacts.{IsContact, points_of}
 use Rattle.seq_model.specs.Plates.{share_of}
 use Rattle.seq_model.specs.Sides.{Side}

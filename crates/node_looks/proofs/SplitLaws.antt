@@ -1,5 +1,5 @@
 -- Leaves and splits meet what a look has to show.
-use Rattle.std.proofs.Common.{◌≡◌, ◌≢◌, ℕ, suc, ◌+◌, ◌<◌, ◌≤◌, ◌^◌, List, [], ◌∷◌, ◌++◌, length, get_or, map, take, drop, All, AllPairs, Contains, length-append, refl, sym, ap, subst, ◌∙◌, arith, inl, inr, ◌⊎◌}
+use Rattle.std.proofs.Common.{◌≡◌, ℕ, suc, ◌<◌, ◌≤◌, ◌^◌, List, [], ◌∷◌, ◌++◌, length, get_or, map, take, drop, All, length-append, refl, sym, ap, subst, ◌∙◌, arith, inl, inr}
 use Rattle.std.proofs.lemmas.List.{length-map, get_or_default}
 use Rattle.std.proofs.lemmas.List.Elements.{AllZip-get_or, All-head, All-tail, All-push}
 use Rattle.std.proofs.lemmas.Slice.Zip.{AllZip-long}
@@ -9,11 +9,10 @@ use Rattle.pair_constraints.specs.Laws.Pairs.{few_of}
 use Rattle.plan_laws.specs.Looking.{OnPath, IsOnOrEarned, EarnsPair}
 use Rattle.search_laws.specs.Laws.FewSides.{few_at_contact}
 use Rattle.search_laws.specs.Laws.SideCounts.{three_at_contact}
-use Rattle.seq_model.specs.Budgets.{HasSides}
 use Rattle.seq_model.specs.Contacts.{IsContact, points_of}
 use Rattle.seq_model.specs.Sides.{AreSides}
 use Rattle.seq_model.specs.Splits.{Earned}
-use Rattle.seq_model.specs.Trees.{also, IsCycle, IsReady, IsSoundNode}
+use Rattle.seq_model.specs.Trees.{also, IsCycle, IsSoundNode}
 use Rattle.seq_model.specs.declared.job.Job.{Job}
 use Rattle.seq_model.specs.declared.tree.Choice.{Choice}
 use Rattle.seq_model.specs.declared.tree.Choice.TheVariants as Choices

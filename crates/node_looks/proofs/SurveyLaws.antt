@@ -1,14 +1,14 @@
 -- What is seen of one pair more, and of all pairs.
-use Rattle.std.proofs.Common.{◌≡◌, ◌≢◌, ℕ, ◌+◌, ◌*◌, ◌<◌, ◌≤◌, List, [], ◌∷◌, ◌++◌, length, All, Contains, Option, Some, None, IsSome, MatchOption, append-nil, refl, sym, ap, subst, ◌∙◌, arith, inl, inr, ◌⊎◌}
+use Rattle.std.proofs.Common.{◌≡◌, ◌≢◌, ℕ, ◌+◌, ◌*◌, ◌<◌, ◌≤◌, List, [], ◌∷◌, ◌++◌, length, Contains, Option, Some, None, IsSome, sym, subst, arith, inl, inr, ◌⊎◌}
 use Rattle.std.proofs.lemmas.Bool.{cases_lt}
 use Rattle.std.proofs.lemmas.List.Elements.{All-nil, All-push, Contains-append_left, Contains-append_right}
-use Rattle.integer_laws.specs.Laws.Members.{In-from_contains, Contains-from_in}
+use Rattle.integer_laws.specs.Laws.Members.{In-from_contains}
 use Rattle.model_laws.specs.Laws.Collisions.{collides_by_contact}
 use Rattle.node_looks.specs.Candidates.{IsCandidate, IsForcedOrder, IsSettledWay, IsSettled, IsPairLook, AreSettled, IsSurveyed}
 use Rattle.node_looks.specs.declared.survey.Candidate.{Candidate}
 use Rattle.node_looks.specs.declared.survey.PairLook.TheVariants as PairLooks
-use Rattle.plan_laws.specs.Looking.{OnPath, AreForced}
-use Rattle.seq_model.specs.Splits.{Values, CollidesAt, IsUnordered}
+use Rattle.plan_laws.specs.Looking.{AreForced}
+use Rattle.seq_model.specs.Splits.{Values}
 use Rattle.seq_model.specs.Systems.{place_of}
 use Rattle.seq_model.specs.declared.job.Job.{Job}
 use Rattle.seq_model.specs.declared.tree.Choice.{Choice}
@@ -78,7 +78,6 @@ pub survey_split : (job : Job) (e : ℕ) (path : List Choice) (at : Values) (k n
     → (new ≡ Some c) ⊎ (IsSome old × (new ≡ old)) → IsSurveyed job e path at k old forced → IsCandidate job e path at c → IsSurveyed job e path at n new forced
 survey_split job e path at k n old new c forced (inl same) is found = subst (λ b. IsSurveyed job e path at n b forced) (sym same) (survey_found job e path at k n old c forced is found)
 survey_split job e path at k n None new c forced (inr kept) is found = absurd (never_some kept.0)
-
 survey_split job e path at k n (Some d) new c forced (inr kept) is found = subst (λ b. IsSurveyed job e path at n b forced) (sym kept.1) (survey_kept job e path at k n d forced is)
 
 -- a number that names no pair

@@ -9,7 +9,7 @@
 --   zero_point job               all variables 0
 --   HasZeroPlan job e            some order of the objects makes their places at the zero point a valid plan
 --   IsZeroLook job e look        such a plan is answered
-use Rattle.std.specs.Prelude.{◌≡◌, ◌↔◌, ℕ, ◌*◌, ◌<◌, ◌^◌, List, [], ◌≤ℤ◌, ◌<ℤ◌, pos, All, Contains, length, map, replicate}
+use Rattle.std.specs.Prelude.{◌≡◌, ◌↔◌, ℕ, ◌*◌, ◌<◌, ◌^◌, List, ◌≤ℤ◌, ◌<ℤ◌, pos, All, Contains, length, map, replicate}
 use Rattle.cert_text.specs.TreeText.{IsSpelt}
 use Rattle.object_orders.specs.Orders.{IsOnce}
 use Rattle.plan_laws.specs.Ordered.{plan_of}
@@ -18,7 +18,7 @@ use Rattle.seq_model.specs.Jobs.{scene_of_job}
 use Rattle.seq_model.specs.Scenes.{Valid}
 use Rattle.seq_model.specs.Splits.{Earned, Values}
 use Rattle.seq_model.specs.Systems.{system}
-use Rattle.seq_model.specs.Trees.{AreChildren, IsClosed, IsSoundNode, also, arity}
+use Rattle.seq_model.specs.Trees.{AreChildren, IsSoundNode, also, arity}
 use Rattle.seq_model.specs.Walks.{WalkWide}
 use Rattle.seq_model.specs.declared.job.Job.{Job}
 use Rattle.seq_model.specs.declared.plan.Plan.{Plan}

@@ -4,6 +4,7 @@
 //! `IsLook` says what each answer shows. The loop above keeps nodes, paths and the budget, and asks a `Looks` about each node.
 #![tactic(auto)]
 
+mod advice;
 mod completing;
 mod hits;
 mod looking;

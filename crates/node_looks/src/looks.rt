@@ -21,7 +21,10 @@ pub enum Look {
         visit: Items<u32>,
     },
     /// The walk of its system ends before this basis, which is wide at this variable.
-    Wide { basis: Items<u32>, row: u32 },
+    Wide {
+        basis: Items<u32>,
+        row: u32,
+    },
 }
 
 /// Who looks at nodes of a job.

@@ -31,10 +31,7 @@ fn note(table: &mut [bool; 256], choice: &Choice)
 {
     match choice {
         Choice::Before { i, j } => note_order(table, *i, *j),
-        Choice::Side {
-            contact: _,
-            dir: _,
-        } => {}
+        Choice::Side { contact: _, dir: _ } => {}
     }
 }
 

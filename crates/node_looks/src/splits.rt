@@ -3,6 +3,7 @@
 ghost use Rattle.std.specs.Prelude.{◌≡◌, ◌<◌, ◌≤◌, ◌++◌, [], ◌∷◌, All, length, map, min, max, drop, take, slice_index_or, IfOk, MatchOption};
 ghost use Rattle.node_looks.specs.Held.{IsTable};
 ghost use Rattle.node_looks.specs.Looks.{IsLook, IsVisit, ClosesBy, SplitsBy};
+ghost use Rattle.pair_constraints.specs.Maximal.{AreContacts};
 ghost use Rattle.plan_laws.specs.Looking.{EarnsPair, IsOnOrEarned, OnPath};
 ghost use Rattle.node_looks.specs.Points.{values};
 ghost use Rattle.seq_model.specs.Contacts.{IsContact, difference, points_of};
@@ -15,10 +16,13 @@ ghost use Rattle.seq_model.specs.declared.tree.Choice.TheVariants as Choices;
 ghost use Rattle.seq_model.specs.declared.tree.Node.TheVariants as Nodes;
 
 use crate::Look;
+use crate::advice::visit_of;
 use crate::orders::is_on;
 use crate::points::SystemPoint;
 use difference_polygon::sides_of;
 use owned_lists::Items;
+use pair_constraints::Contacts;
+use search_room::Room;
 use seq_model::{Choice, Contact, Dir, Job, Node, Part, Zone};
 use seq_num::NoMemory;
 use std::alloc::{AllocError, Global};
@@ -65,7 +69,11 @@ pub(crate) fn order_split(
     })
 }
 
-fn sides_as_choices(alloc: Global, contact: &Contact, dirs: &[Dir]) -> Result<Items<Choice>, AllocError>
+fn sides_as_choices(
+    alloc: Global,
+    contact: &Contact,
+    dirs: &[Dir],
+) -> Result<Items<Choice>, AllocError>
     ensures { IfOk result (λ c. c ≡ map (Choices.Side contact.now) dirs.now) }
 {
     let mut choices = Vec::with_capacity(alloc, dirs.len())?;
@@ -86,15 +94,16 @@ pub(crate) fn side_split(
     path: &[Choice],
     contact: &Contact,
     dirs: &[Dir],
+    visit: Items<u32>,
 ) -> Result<Look, AllocError>
     requires sound { IsSoundNode job.now extent path.now (Nodes.Side contact.now (length dirs.now)) }
     requires earned { Earned job.now extent path.now (Nodes.Side contact.now (length dirs.now)) }
     requires sides { AreSides (points_of job.now contact.now) dirs.now }
+    requires visit { IsVisit (length dirs.now) visit }
     ensures { IfOk result (IsLook job.now extent path.now) }
 {
     let children = dirs.len() as u32;
     let choices = sides_as_choices(alloc, contact, dirs)?;
-    let visit = in_order(alloc, children)?;
     Ok(Look::Split {
         node: Node::Side {
             contact: *contact,
@@ -185,7 +194,12 @@ fn sides_between(alloc: Global, a: &Zone, b: &Zone, part: &Part) -> Result<Vec<D
     requires part { IsSoundPart part.now }
     ensures { IfOk result (λ dirs. AreSides (difference a.now.corners b.now.corners part.now.corners) dirs.items) }
 {
-    sides_of(alloc, a.corners.as_slice(), b.corners.as_slice(), part.corners.as_slice())
+    sides_of(
+        alloc,
+        a.corners.as_slice(),
+        b.corners.as_slice(),
+        part.corners.as_slice(),
+    )
 }
 
 fn sides_of_contact(alloc: Global, job: &Job, contact: &Contact) -> Result<Vec<Dir>, NoMemory>
@@ -198,20 +212,46 @@ fn sides_of_contact(alloc: Global, job: &Job, contact: &Contact) -> Result<Vec<D
     sides_between(alloc, a, b, part)
 }
 
+// The split by the sides of a contact, the least push first.
+fn open_by(
+    alloc: Global,
+    job: &Job,
+    extent: u32,
+    path: &[Choice],
+    contacts: &Contacts,
+    room: &Room,
+    at: &SystemPoint,
+    contact: &Contact,
+    dirs: &[Dir],
+) -> Result<Look, NoMemory>
+    requires contacts { AreContacts job.now contacts.now }
+    requires sound { IsSoundNode job.now extent path.now (Nodes.Side contact.now (length dirs.now)) }
+    requires earned { Earned job.now extent path.now (Nodes.Side contact.now (length dirs.now)) }
+    requires sides { AreSides (points_of job.now contact.now) dirs.now }
+    ensures { IfOk result (IsLook job.now extent path.now) }
+{
+    let pair = contacts.of_pair(contact.i, contact.j);
+    let visit = visit_of(alloc, room, pair, at, contact, dirs.len() as u32)?;
+    Ok(side_split(alloc, job, extent, path, contact, dirs, visit)?)
+}
+
 /// The split by the sides of a contact that collides at a point of the path.
 pub(crate) fn open_contact(
     alloc: Global,
     job: &Job,
     extent: u32,
     path: &[Choice],
+    contacts: &Contacts,
+    room: &Room,
     at: &SystemPoint,
     contact: &Contact,
 ) -> Result<Look, NoMemory>
+    requires contacts { AreContacts job.now contacts.now }
     requires on { IsOn job.now extent path.now (values at.now) }
     requires ready { OnPath path.now contact.now.i contact.now.j }
     requires collides { ContactCollidesAt job.now extent (values at.now) contact.now }
     ensures { IfOk result (IsLook job.now extent path.now) }
 {
     let dirs = sides_of_contact(alloc, job, contact)?;
-    Ok(side_split(alloc, job, extent, path, contact, &dirs)?)
+    open_by(alloc, job, extent, path, contacts, room, at, contact, &dirs)
 }

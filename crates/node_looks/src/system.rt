@@ -61,7 +61,13 @@ fn room_in_y(region: &Region, object: &Object) -> i64
     room(region.h, object.low.y, object.high.y)
 }
 
-fn x_bound(alloc: Global, job: &Job, region: &Region, object: &Object, variable: usize) -> Result<Row, AllocError>
+fn x_bound(
+    alloc: Global,
+    job: &Job,
+    region: &Region,
+    object: &Object,
+    variable: usize,
+) -> Result<Row, AllocError>
     requires variable { variable < 2 * length job.now.objects }
     requires w { unsigned_abs region.now.w ≤ 20_000 }
     requires low { IsNearSpot 1_001_000 object.now.low }
@@ -72,7 +78,13 @@ fn x_bound(alloc: Global, job: &Job, region: &Region, object: &Object, variable:
     bound_row(alloc, job, variable, &bound)
 }
 
-fn y_bound(alloc: Global, job: &Job, region: &Region, object: &Object, variable: usize) -> Result<Row, AllocError>
+fn y_bound(
+    alloc: Global,
+    job: &Job,
+    region: &Region,
+    object: &Object,
+    variable: usize,
+) -> Result<Row, AllocError>
     requires variable { variable < 2 * length job.now.objects }
     requires h { unsigned_abs region.now.h ≤ 20_000 }
     requires low { IsNearSpot 1_001_000 object.now.low }
@@ -158,7 +170,12 @@ fn row_of_side(alloc: Global, job: &Job, contact: &Contact, dir: &Dir) -> Result
     row_of_pair(alloc, job, &row)
 }
 
-fn push_side(alloc: Global, rows: &mut Vec<Row>, job: &Job, choice: &Choice) -> Result<(), AllocError>
+fn push_side(
+    alloc: Global,
+    rows: &mut Vec<Row>,
+    job: &Job,
+    choice: &Choice,
+) -> Result<(), AllocError>
     requires { IsSideOf job.now choice.now }
     ensures { (e : ℕ) → OnOk result (rows.new.items ≡ rows.old.items ++ side_rows job.now e (choice.now ∷ [])) }
 {

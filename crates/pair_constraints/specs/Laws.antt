@@ -2,6 +2,8 @@
 pub mod Covering
 pub mod Firsts
 pub mod KeptRows
+pub mod KeptSides
+pub mod Maximal
 pub mod Nesting
 pub mod Numbered
 pub mod Pairs

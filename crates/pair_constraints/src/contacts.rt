@@ -1,6 +1,6 @@
 // The maximal contacts of all ordered pairs of a job's objects.
-ghost use Rattle.std.specs.Prelude.{◌≡◌, ◌<◌, [], length, IfOk, slice_index_or};
-ghost use Rattle.pair_constraints.specs.Maximal.{AreContacts, kept_contacts, kept_of};
+ghost use Rattle.std.specs.Prelude.{◌≡◌, ◌<◌, [], All, length, IfOk, slice_index_or};
+ghost use Rattle.pair_constraints.specs.Maximal.{AreContacts, IsMaximal, kept_contacts, kept_of};
 ghost use Rattle.pair_constraints.specs.Laws.Nesting.{IsNested};
 ghost use Rattle.pair_constraints.specs.Laws.Rows.{IsRow, AreRows};
 ghost use Rattle.search_laws.specs.Covering.{AreEnough};
@@ -56,6 +56,7 @@ impl Contacts {
     pub fn of(alloc: Global, job: &Job) -> Result<Contacts, NoMemory>
         ensures kept { IfOk result (AreContacts job.now) }
         ensures enough { IfOk result (λ contacts. AreEnough job.now (kept_contacts contacts)) }
+        ensures maximal { IfOk result (λ contacts. All (IsMaximal job.now) (kept_contacts contacts)) }
     {
         let nested = Nested::of(alloc, job)?;
         let rows = rows_of(alloc, job, &nested)?;

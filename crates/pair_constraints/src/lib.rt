@@ -21,6 +21,7 @@ mod overlaps;
 mod points;
 mod rows;
 mod settling;
+mod sides;
 mod testing;
 
 pub use colliding::{collides, next_contact};
@@ -30,3 +31,4 @@ pub use laws::{beyond_any_direction_is_out_of_reach, covered_contacts_need_no_op
 pub use limits::{Limit, cover, is_inside, limits_of};
 pub use overlaps::zones_overlap;
 pub use points::SolvedPoint;
+pub use sides::KeptSides;

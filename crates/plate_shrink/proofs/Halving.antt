@@ -137,14 +137,14 @@ never_spent job budget full (Outcomes.NoPlan tree) is enough shows spent = spent
 never_spent job budget full (Outcomes.Unproved plan e cause) is enough shows spent = no_budget job (e - 1) budget full cause is enough shows.below spent
 never_spent job budget full (Outcomes.Undecided cause) is enough shows spent = no_budget job job.printer.grid budget full cause is enough shows spent
 
-no_cause : (job : Job) (e budget full : ℕ) (cause : Cause) → Full job full → full ≤ budget → HasNoWideJob job → IsCause job e budget cause → ⊥
-no_cause job e budget full (Causes.Budget tree) is enough narrow shows =
+no_cause : (job : Job) (e budget full : ℕ) (cause : Cause) → Full job full → full ≤ budget → HasNoWideJob job → 1 ≤ e → e ≤ job.printer.grid → IsCause job e budget cause → ⊥
+no_cause job e budget full (Causes.Budget tree) is enough narrow low high shows =
     let below : budget < full = spent_below_full job e full budget tree is shows.spent in omega (arith, below, enough)
-no_cause job e budget full (Causes.Wide note tree) is enough narrow shows =
-    narrow e shows.noted.path (stands_at_path job e tree note.node shows.noted.path shows.unfinished shows.noted.path_is) (note.basis, note.row, shows.noted.wide)
+no_cause job e budget full (Causes.Wide note tree) is enough narrow low high shows =
+    narrow e low high shows.noted.path (stands_at_path job e tree note.node shows.noted.path shows.unfinished shows.noted.path_is) (note.basis, note.row, shows.noted.wide)
 
 pub decides : (job : Job) (budget full : ℕ) (outcome : Outcome) → Full job full → full ≤ budget → HasNoWideJob job → IsOutcome job budget outcome → IsDecided outcome
 decides job budget full (Outcomes.Least plan e tree) is enough narrow shows = tt
 decides job budget full (Outcomes.NoPlan tree) is enough narrow shows = tt
-decides job budget full (Outcomes.Unproved plan e cause) is enough narrow shows = no_cause job (e - 1) budget full cause is enough narrow shows.below
-decides job budget full (Outcomes.Undecided cause) is enough narrow shows = no_cause job job.printer.grid budget full cause is enough narrow shows
+decides job budget full (Outcomes.Unproved plan e cause) is enough narrow shows = no_cause job (e - 1) budget full cause is enough narrow (omega (arith, shows.from_two)) (omega (arith, shows.found.valid.to_grid)) shows.below
+decides job budget full (Outcomes.Undecided cause) is enough narrow shows = no_cause job job.printer.grid budget full cause is enough narrow job.printer.ranged.grid_low (omega arith) shows

@@ -82,7 +82,7 @@ IsDecided (Outcomes.Unproved plan e cause) = ⊥
 IsDecided (Outcomes.Undecided cause) = ⊥
 
 abbrev pub HasNoWideJob : Job → Type 0
-HasNoWideJob job = (e : ℕ) → HasNoWideWalk job e
+HasNoWideJob job = (e : ℕ) → 1 ≤ e → e ≤ job.printer.grid → HasNoWideWalk job e
 
 abbrev pub failed_at : Option Failed → ℕ
 failed_at None = 0

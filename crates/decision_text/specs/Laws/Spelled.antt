@@ -4,7 +4,7 @@
 --   found_is_file, bare_is_file  the file of a plan that was found, and a file without places
 --   stated                       the text of a file and of the block that is due is read back
 --   decision_stated, outcome_stated   so is the text of a decision, and of a search for the least extent
-use Rattle.std.proofs.Common.{◌≡◌, ◌≢◌, ℕ, ◌-◌, ◌<◌, ◌≤◌, ◌^◌, List, [], ◌∷◌, ◌++◌, length, map, take, drop, All, AllPairs, Bool, true, false, Option, Some, None, refl, sym, subst, ap, ◌∙◌, pos, arith, append-nil, append_assoc, nat_lt}
+use Rattle.std.proofs.Common.{◌≡◌, ◌≢◌, ℕ, ◌-◌, ◌<◌, ◌≤◌, List, [], ◌++◌, length, map, AllPairs, Bool, true, false, Option, Some, None, refl, sym, subst, ap, ◌∙◌, arith, append-nil, append_assoc, nat_lt}
 use Rattle.std.proofs.Math.Seq.{take-append_seam, drop-append_seam}
 use Rattle.std.proofs.lemmas.Bool.{eqb-true}
 use Rattle.std.proofs.lemmas.Bool.Decides.{Decides-eqb, nat_tests}
@@ -13,22 +13,20 @@ use Rattle.std.proofs.lemmas.List.Elements.{All-contains, All-map}
 use Rattle.std.proofs.lemmas.Map.Made.{IsDistinct-from_AllPairs}
 use Rattle.std.proofs.lemmas.Map.Steps.{length-le_from_distinct_below}
 use Rattle.std.proofs.lemmas.Map.Views.{Contains-from_any}
-use Rattle.cert_text.specs.TreeText.{HasNote, IsSpelt, IsSpeltHead, IsSpeltNote, IsTreeText, first_line, tree_text}
+use Rattle.cert_text.specs.TreeText.{IsSpeltHead, IsSpeltNote, IsTreeText, first_line, tree_text}
 use Rattle.cert_text.specs.declared.block.Head.{Head}
 use Rattle.cert_text.specs.declared.block.Kind.{Kind}
 use Rattle.cert_text.specs.declared.block.Kind.TheVariants as Kinds
-use Rattle.decision_text.specs.DecisionText.{IsTextOf, block_text, decision_text, excludes, outcome_text, placed, statement_for, statement_of, statement_text, tried, tried_wide}
-use Rattle.decision_text.specs.declared.statement.Statement.{Statement}
+use Rattle.decision_text.specs.DecisionText.{IsTextOf, block_text, decision_text, excludes, outcome_text, placed, statement_for, statement_of, tried, tried_wide}
 use Rattle.node_looks.specs.Looks.{IsFound}
 use Rattle.plan_laws.specs.Laws.Audits.{no_repeat}
 use Rattle.plan_laws.specs.Laws.PlanPoints.{no_place}
-use Rattle.plan_text.specs.PlanText.{IsPlanFile, IsPlanOf, begins_place, has_places, is_block_due, plan_text}
+use Rattle.plan_text.specs.PlanText.{IsPlanFile, begins_place, has_places, is_block_due, plan_text}
 use Rattle.plan_text.specs.Reading.{bare}
 use Rattle.plan_text.specs.declared.file.PlanFile.{PlanFile}
 use Rattle.plan_text.specs.declared.file.State.{State}
 use Rattle.plan_text.specs.declared.file.State.TheVariants as States
-use Rattle.plate_shrink.specs.Outcomes.{IsOutcome, IsCause}
-use Rattle.plate_shrink.specs.declared.outcome.Cause.{Cause}
+use Rattle.plate_shrink.specs.Outcomes.{IsOutcome}
 use Rattle.plate_shrink.specs.declared.outcome.Cause.TheVariants as Causes
 use Rattle.plate_shrink.specs.declared.outcome.Outcome.{Outcome}
 use Rattle.plate_shrink.specs.declared.outcome.Outcome.TheVariants as Outcomes

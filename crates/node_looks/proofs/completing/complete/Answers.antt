@@ -1,15 +1,12 @@
-use Rattle.std.proofs.Common.{◌≡◌, ℕ, ◌<◌, List, [], ◌∷◌, ◌++◌, All, length, sym, ap, subst, ◌∙◌, refl}
+use Rattle.std.proofs.Common.{ℕ, ◌<◌, List, All, length, sym, subst, refl}
 use Rattle.node_looks.proofs.CompletingLaws.{order_makes_plan, order_known, cycle_earns, cycle_known}
 use Rattle.node_looks.proofs.ZeroLaws.{zero_order}
-use Rattle.node_looks.specs.Looks.{IsZeroLook, zero_point}
 use Rattle.node_looks.specs.Points.{values}
 use Rattle.plan_laws.specs.Ordered.{plan_of}
 use Rattle.plan_laws.specs.Looking.{IsOnOrEarned}
 use Rattle.seq_model.specs.Jobs.{scene_of_job}
 use Rattle.seq_model.specs.Scenes.{Valid}
-use Rattle.seq_model.specs.Splits.{Values}
 use Rattle.seq_model.specs.Trees.{IsCycle}
-use Rattle.seq_model.specs.declared.plan.Plan.{Plan}
 use Rattle.node_looks.proofs.completing.complete.Goals as goal
 
 pub plan_at-requires-clause-known : goal.plan_at-requires-clause-known

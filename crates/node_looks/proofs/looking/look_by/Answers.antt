@@ -1,4 +1,4 @@
-use Rattle.std.proofs.Common.{◌≡◌, ◌*◌, List, length, sym, subst}
+use Rattle.std.proofs.Common.{◌*◌, List, length, sym, subst}
 use Rattle.feasible_point.specs.Answering.{Solves}
 use Rattle.feasible_point.specs.Shortening.{IsShortest}
 use Rattle.feasible_point.specs.declared.Solved.{Solved}

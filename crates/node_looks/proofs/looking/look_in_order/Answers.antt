@@ -1,4 +1,3 @@
-use Rattle.std.proofs.Common.{◌≡◌, List, [], subst}
 use Rattle.node_looks.proofs.SurveyLaws.{survey_candidate}
 use Rattle.node_looks.proofs.ZeroLaws.{zero_candidate_at}
 use Rattle.node_looks.specs.Points.{values}

@@ -1,4 +1,4 @@
-use Rattle.std.proofs.Common.{◌≡◌, ℕ, ◌*◌, List, length, sym, ap, subst, ◌∙◌, arith, pos}
+use Rattle.std.proofs.Common.{ℕ, ◌*◌, sym, subst, arith, pos}
 use Rattle.std.specs.Prelude.{IfOk}
 use Rattle.feasible_point.specs.Answering.{IsZeroPoint}
 use Rattle.integer_laws.specs.Vectors.{zeros}
@@ -10,20 +10,20 @@ use Rattle.node_looks.proofs.looking.solve_path.Goals as goal
 
 pub solve-requires-clause-rows : goal.solve-requires-clause-rows
 solve-requires-clause-rows c =
-    subst (λ (n : ℕ). AreRowsOf (2 * n) c.deref.result.now) (sym c.len.ensures)
-    (rows_of c.args.job.now c.args.extent c.args.path.now c.deref.result.now (c.deref.ensures.value ∙ c.in_ok-rows.ensures) c.requires.high c.requires.path)
+    subst (λ (n : ℕ). AreRowsOf (2 * n) c.args.rows.now) (sym c.len.ensures)
+    (rows_of c.args.job.now c.args.extent c.args.path.now c.args.rows.now c.requires.rows c.requires.high c.requires.path)
 
 pub solve-requires-clause-small : goal.solve-requires-clause-small
-solve-requires-clause-small c = rows_small c.args.job.now c.args.extent c.args.path.now c.deref.result.now (c.deref.ensures.value ∙ c.in_ok-rows.ensures) c.requires.high c.requires.path
+solve-requires-clause-small c = rows_small c.args.job.now c.args.extent c.args.path.now c.args.rows.now c.requires.rows c.requires.high c.requires.path
 
 pub solve-requires-clause-count : goal.solve-requires-clause-count
 solve-requires-clause-count c =
-    let r = rows_few c.args.job.now c.args.extent c.args.path.now c.deref.result.now (c.deref.ensures.value ∙ c.in_ok-rows.ensures) c.requires.short in
+    let r = rows_few c.args.job.now c.args.extent c.args.path.now c.args.rows.now c.requires.rows c.requires.short in
     omega (arith, r, c.len.ensures)
 
 pub returns-clause-zero : goal.returns-clause-zero
 returns-clause-zero c = λ none h.
-    let rows = c.deref.result.now in
+    let rows = c.args.rows.now in
     subst (λ (n : ℕ). IfOk c.solve.result (IsZeroPoint (2 * n))) c.len.ensures
     (c.solve.ensures.zero (subst (λ (n : ℕ). MeetsRows rows (pos 1) (zeros (2 * n))) (sym c.len.ensures)
-    (zero_meets c.args.job.now c.args.extent c.args.path.now rows (c.deref.ensures.value ∙ c.in_ok-rows.ensures) none h)))
+    (zero_meets c.args.job.now c.args.extent c.args.path.now rows c.requires.rows none h)))

@@ -1,4 +1,4 @@
-use Rattle.std.proofs.Common.{◌≡◌, ◌≢◌, refl, sym, ap₂, ◌∙◌, arith, ◌+◌, ◌*◌, ◌/◌, ◌%◌, ◌<◌, ℕ, true, false}
+use Rattle.std.proofs.Common.{◌≡◌, ◌≢◌, sym, ap₂, ◌∙◌, arith, ◌+◌, ◌*◌, ◌/◌, ◌%◌, ◌<◌}
 use Rattle.std.proofs.lemmas.Result.{on_ok_weaker, IfErr-weaker}
 use Rattle.node_looks.proofs.OrderLaws.{holds_more, holds_same, closes_on_path, on_path, not_on, number_of}
 use Rattle.plan_laws.specs.Laws.OnPath.{is_before}
@@ -27,5 +27,5 @@ pub returns-clause-held : goal.returns-clause-held
 returns-clause-held c =
     let k = c.args.k in
     holds_same c.args.path.now c.args.n k c.args.graph.now c.requires.held (λ i j l m apart e on.
-        let same = number_of i j k (omega (arith, m, c.requires.n)) e in
-        not_on c.args.path.now i j (ap₂ (is_before c.args.path.now) (sym same.0) (sym same.1) ∙ sym c.is_on.ensures ∙ c.if-is_on.false) on)
+    let same = number_of i j k (omega (arith, m, c.requires.n)) e in
+    not_on c.args.path.now i j (ap₂ (is_before c.args.path.now) (sym same.0) (sym same.1) ∙ sym c.is_on.ensures ∙ c.if-is_on.false) on)

@@ -1,7 +1,5 @@
-use Rattle.std.proofs.Common.{◌++◌, ◌∷◌, [], subst, sym, refl}
-use Rattle.node_looks.specs.Held.{IsTable}
+use Rattle.std.proofs.Common.{refl}
 use Rattle.node_looks.proofs.OrderLaws.{table_side}
-use Rattle.seq_model.specs.declared.tree.Choice.{Choice}
 use Rattle.node_looks.proofs.orders.note.Goals as goal
 
 pub returns-in-Before : goal.returns-in-Before

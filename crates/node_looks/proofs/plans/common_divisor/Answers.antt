@@ -1,4 +1,4 @@
-use Rattle.std.proofs.Common.{◌≡◌, ◌+◌, List, [], take, sym, subst, ◌∙◌, rules, FitsSigned, ℤ}
+use Rattle.std.proofs.Common.{◌+◌, List, [], take, sym, subst, ◌∙◌, rules, FitsSigned, ℤ}
 use Rattle.std.proofs.lemmas.Int.{to_z-of_z}
 use Rattle.std.proofs.lemmas.List.{take_more}
 use Rattle.node_looks.specs.Scaled.{IsCommon}

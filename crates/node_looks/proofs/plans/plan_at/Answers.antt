@@ -1,7 +1,5 @@
-use Rattle.std.proofs.Common.{◌≡◌, List, map, sym, ap, subst, ◌∙◌}
+use Rattle.std.proofs.Common.{List, sym, ap, subst, ◌∙◌}
 use Rattle.node_looks.proofs.Scaling.{found_plan, unscaled}
-use Rattle.node_looks.specs.Points.{values}
-use Rattle.plan_laws.specs.Ordered.{plan_of}
 use Rattle.seq_model.specs.Jobs.{scene_of_job}
 use Rattle.seq_model.specs.Scenes.{Valid}
 use Rattle.seq_model.specs.declared.plan.Place.{Place}

@@ -1,7 +1,6 @@
-use Rattle.std.proofs.Common.{FitsSigned, rules, ◌≤ℤ◌, pos, arith}
-use Rattle.std.proofs.lemmas.Int.{ints, to_z-of_z}
+use Rattle.std.proofs.Common.{FitsSigned, rules, ◌≤ℤ◌, pos}
+use Rattle.std.proofs.lemmas.Int.{to_z-of_z}
 use Rattle.integer_laws.specs.Divisors.{IsGcdOf}
-use Rattle.node_looks.specs.Scaled.{IsShared}
 use Rattle.node_looks.proofs.Scaling.{positive, shared}
 use Rattle.node_looks.proofs.plans.shared_divisor.Goals as goal
 

@@ -1,4 +1,4 @@
-use Rattle.std.proofs.Common.{◌≡◌, List, ℕ, sym, subst, arith}
+use Rattle.std.proofs.Common.{◌≡◌, sym, subst, arith}
 use Rattle.node_looks.proofs.SplitLaws.{visits}
 use Rattle.node_looks.specs.Looks.{IsVisit}
 use Rattle.node_looks.proofs.splits.in_order.Goals as goal

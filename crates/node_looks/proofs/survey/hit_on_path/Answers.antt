@@ -9,5 +9,5 @@ returns-then-not-is_on c = λ on hits. not_on c.args.path.now c.args.i c.args.j 
 
 pub returns : goal.returns
 returns c =
-    hit_candidate c.args.job.now c.args.extent c.args.path.now (values c.args.at.now) c.args.i c.args.j c.hit.result
-    (on_path c.args.path.now c.args.i c.args.j (sym c.is_on.ensures ∙ c.if-not-is_on.false)) c.hit.ensures
+    hit_candidate c.args.job.now c.args.extent c.args.path.now (values c.args.at.now) c.args.i c.args.j c.hit_of.result
+    (on_path c.args.path.now c.args.i c.args.j (sym c.is_on.ensures ∙ c.if-not-is_on.false)) c.hit_of.ensures

@@ -1,4 +1,4 @@
-use Rattle.std.proofs.Common.{◌≡◌, ℕ, ◌<◌, ◌≤◌, List, length, get_or, sym, ap, subst, ◌∙◌, arith, unsigned_abs}
+use Rattle.std.proofs.Common.{◌<◌, ◌≤◌, List, length, get_or, sym, ap, subst, ◌∙◌, arith, unsigned_abs}
 use Rattle.node_looks.proofs.RegionLaws.{object_is, low_near, high_near}
 use Rattle.node_looks.proofs.RowLaws.{bounds_more, wide_near, deep_near}
 use Rattle.seq_model.specs.declared.job.Object.{Object}

@@ -1,4 +1,4 @@
-use Rattle.std.proofs.Common.{◌≡◌, List, [], ◌∷◌, ◌++◌, sym, ap, ◌∙◌}
+use Rattle.std.proofs.Common.{[], ◌∷◌, ◌++◌, sym, ap, ◌∙◌}
 use Rattle.seq_model.specs.Systems.{side_rows}
 use Rattle.seq_model.specs.declared.row.Row.{Row}
 use Rattle.seq_model.specs.declared.tree.Choice.{Choice}

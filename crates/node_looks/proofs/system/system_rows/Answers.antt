@@ -1,4 +1,4 @@
-use Rattle.std.proofs.Common.{◌≡◌, ℕ, get_or}
+use Rattle.std.proofs.Common.{get_or}
 use Rattle.std.proofs.lemmas.List.{get_or_default}
 use Rattle.node_looks.proofs.RowLaws.{side_at, sides_more}
 use Rattle.seq_model.specs.declared.tree.Choice.{Choice}

@@ -1,4 +1,4 @@
-use Rattle.std.proofs.Common.{◌≡◌, ◌+◌, ◌*◌, ℕ, List, sym, subst}
+use Rattle.std.proofs.Common.{◌+◌, ◌*◌, ℕ, List, sym, subst}
 use Rattle.std.proofs.lemmas.Result.{on_ok_weaker}
 use Rattle.node_looks.specs.Candidates.{IsCandidate, IsPairLook, IsSurveyed}
 use Rattle.node_looks.proofs.SurveyLaws.{survey_settled, survey_forced_as, survey_split}
@@ -12,7 +12,7 @@ pub returns-in-Forced : goal.returns-in-Forced
 returns-in-Forced c = λ job e path at is look.
     on_ok_weaker c.force.result
     (λ s. survey_forced_as job e path at c.args.i c.args.j c.in-Forced.first c.in-Forced.second c.args.self.now.best c.force.new.self.best c.args.self.now.forced.items c.force.new.self.forced.items c.requires.low c.requires.high s.0 s.1 is
-     (subst (IsPairLook job e path at c.args.i c.args.j) c.in-Forced.is look))
+    (subst (IsPairLook job e path at c.args.i c.args.j) c.in-Forced.is look))
     c.force.ensures
 
 pub returns-in-Split : goal.returns-in-Split
