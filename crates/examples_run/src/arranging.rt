@@ -162,6 +162,28 @@ fn large_files_are_read_or_too_long(rt: HostRuntime) -> Result<(), Fail> {
     see(&rt, rt.alloc(), &printer, &large, ARRANGE, (4, b"", line))
 }
 
+#[test]
+fn more_facets_than_the_limit_are_refused(rt: HostRuntime) -> Result<(), Fail> {
+    let line = b"input: a.stl: more than 200000 facets\n";
+    let mesh = Mesh::Wedges(25_001);
+    see(&rt, rt.alloc(), PLATE, &mesh, ARRANGE, (4, b"", line))
+}
+
+// Spaces of 64 MiB, and one more.
+static LONG: [(usize, &[u8]); 2] = [
+    (67_108_864, b"input: a.stl: expected solid at 67108864\n"),
+    (67_108_865, b"input: a.stl: longer than 67108864 bytes\n"),
+];
+
+#[test]
+fn a_mesh_past_64_mib_is_too_long(rt: HostRuntime) -> Result<(), Fail> {
+    for (count, line) in &LONG {
+        let mesh = Mesh::Spaces(*count);
+        see(&rt, rt.alloc(), PLATE, &mesh, ARRANGE, (4, b"", line))?;
+    }
+    Ok(())
+}
+
 const NO_MESH: &[&str] = &["arrange", "p0.toml"];
 
 // Words, calls of the shelf that fail, the status and the line on `err`.

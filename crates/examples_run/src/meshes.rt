@@ -15,6 +15,10 @@ pub(crate) enum Mesh {
     Block(i64),
     /// So many cubes in one place, of 12 facets each.
     Cubes(u32),
+    /// So many wedges in one place, of 8 facets each.
+    Wedges(u32),
+    /// So many spaces, and no mesh.
+    Spaces(usize),
     /// A cube, as an exporter writes it.
     Exported,
     /// A cube without its last facet.
@@ -159,6 +163,8 @@ fn put(alloc: Global, text: &mut Vec<u8>, mesh: &Mesh) -> Result<(), Fail> {
         Mesh::Binary => binary(text),
         Mesh::Block(height) => solid(alloc, text, Style::Plain, &CUBE, 1, *height),
         Mesh::Cubes(count) => solid(alloc, text, Style::Plain, &CUBE, *count, 20),
+        Mesh::Wedges(count) => solid(alloc, text, Style::Plain, &WEDGE, *count, 20),
+        Mesh::Spaces(count) => Ok(text.resize(*count, b' ')?),
         Mesh::Exported => solid(alloc, text, Style::Exported, &CUBE, 1, 20),
         Mesh::Open => solid(alloc, text, Style::Plain, &CUBE[..11], 1, 20),
         Mesh::Dropped => {
