@@ -23,7 +23,8 @@ use std::alloc::Global;
 // What a task makes of what was loaded.
 fn answer_of(alloc: Global, task: Task, loaded: Loaded) -> Result<Answer, NoMemory>
     requires { CanWorkOn task loaded.job loaded.plan }
-    ensures prints { IfOk result (λ answer. PrintsFor task loaded.job loaded.plan answer.verdict answer.text) }
+    ensures prints { IfOk result
+        (λ answer. PrintsFor task loaded.job loaded.plan answer.verdict answer.text) }
     ensures notes { IfOk result (λ answer. answer.notes ≡ loaded.notes) }
 {
     let Loaded { job, plan, notes } = loaded;
@@ -132,7 +133,8 @@ pub fn run<S: Shelf, O: Sink, E: Sink>(
         → IsOneOf (1 ∷ 3 ∷ 6 ∷ 8 ∷ 9 ∷ []) result }
 
     // 6: the search was left undecided; `out` took the tree that shows why. With a budget that is enough it isn't.
-    ensures undecided { result ≡ 6 → Asks (texts words.now.items) (λ a. IsAnswered Verdict.Undecided a
+    ensures undecided { result ≡ 6
+        → Asks (texts words.now.items) (λ a. IsAnswered Verdict.Undecided a
         (S.shows shelf.old) (S.shows shelf.new)
         (E.shows err.old) (E.shows err.new) (O.shows out.old) (O.shows out.new)) }
     ensures decided_always { (files : List MemFile) → (S.shows shelf.old).files ≡ Some files
