@@ -1,6 +1,6 @@
 //! Checks a certificate of 16 objects of 20 zones: splits of 8 sides, one below the other, behind the orders of all objects; 124,970 of
 //! them, which are 1,000,001 nodes, with the word `splits`, and else 1,200. With the word `orders` it has 1,000,000 nested orders and as
-//! many cycles. `bench/run check WORD` times it.
+//! many cycles. `bench/run certificates WORD` times it.
 //! It prints what the check says, and on the error stream the milliseconds of reading and of checking. Each zone is an octagon of
 //! its own size. Nothing is promised here but that `check` may be called.
 #![tactic(auto)]

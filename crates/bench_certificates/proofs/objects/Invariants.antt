@@ -1,6 +1,6 @@
 use Rattle.std.proofs.Common.{◌≡◌, All, length}
 use Rattle.seq_model.specs.Soundness.{IsSoundObject}
-use Rattle.bench_check.proofs.objects.Given as goal
+use Rattle.bench_certificates.proofs.objects.Given as goal
 
 abbrev pub invariant-loop : goal.invariant-loop
 invariant-loop l = record {

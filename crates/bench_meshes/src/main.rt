@@ -1,5 +1,5 @@
 //! Looks at a mesh of 200,000 facets with scattered corners, and prints its open edges and six volumes.
-//! `bench/run checks` times it. Nothing is promised here but that `look` may be called.
+//! `bench/run meshes` times it. Nothing is promised here but that `look` may be called.
 #![tactic(auto)]
 
 ghost use Rattle.std.specs.Prelude.{◌≡◌, ◌≤◌, length, IfOk, All};

@@ -1,6 +1,6 @@
 use Rattle.std.proofs.Common.{◌≤◌, All, length}
 use Rattle.seq_model.specs.Bounds.{IsNearFacet}
-use Rattle.bench_check.proofs.facets.Given as goal
+use Rattle.bench_certificates.proofs.facets.Given as goal
 
 abbrev pub invariant-loop-k : goal.invariant-loop-k
 invariant-loop-k l = record {
