@@ -1,19 +1,22 @@
 //! The grammar by examples: each refusal with its place, and meshes with how many facets they keep and drop.
 
-use super::*;
-use Decimal::{BadByte, Empty, NoDigit, TooFar, TooLong};
-use Keyword::{Endfacet, Endloop, FacetOrEndsolid, Loop, Normal, NormalWord, Outer, Solid, Vertex};
-use Stl::{Binary, Expected, NoFacet, Number};
+use decimal_lengths::Decimal::{BadByte, Empty, NoDigit, TooFar, TooLong};
 use seq_model::{Facet, Point3};
-use std::test::Fail;
+use std::alloc::Global;
+use stl_text::Keyword::{
+    Endfacet, Endloop, FacetOrEndsolid, Loop, Normal, NormalWord, Outer, Solid, Vertex,
+};
+use stl_text::Stl::{Binary, Expected, NoFacet, Number};
+use stl_text::{Stl, read_mesh};
 
-static MALFORMED: [(&[u8], Stl); 44] = [
+static MALFORMED: [(&[u8], Stl); 45] = [
     // the first line of a solid
     (b"", Expected(Solid, 0)),
     (b" \t\r\n", Expected(Solid, 4)),
     (b"solids\nendsolid\n", Expected(Solid, 0)),
     (b"solid\x0b\nendsolid\n", Expected(Solid, 0)),
     (b"\n\n facet", Expected(Solid, 3)),
+    (&[b' '; 84], Expected(Solid, 84)),
     (b"\xef\xbb\xbfsolid\n", Expected(Solid, 0)),
     // a facet or the end of the solid
     (b"solid", Expected(FacetOrEndsolid, 5)),
@@ -255,18 +258,34 @@ static ROUNDED: &[u8] =
     b"solid\nfacet normal - - - outer loop vertex 1.0005 -2e1 .5 vertex 0 0 4.9e-4 \
     vertex -1.0005 10000 +3 endloop endfacet endsolid";
 
+// How many facets are kept and dropped; none where the file is refused.
+fn counts(alloc: Global, bytes: &[u8]) -> Option<(usize, u32)> {
+    let mesh = read_mesh(alloc, bytes).ok()?;
+    Some((mesh.facets.len(), mesh.dropped))
+}
+
+fn has_one_facet(alloc: Global, bytes: &[u8], facet: &Facet) -> bool {
+    match read_mesh(alloc, bytes) {
+        Ok(mesh) => match mesh.facets.as_slice() {
+            [only] => *only == *facet,
+            _ => false,
+        },
+        Err(_) => false,
+    }
+}
+
 #[test]
-fn meshes_and_refusals(rt: HostRuntime) -> Result<(), Fail> {
-    let alloc = rt.alloc();
+fn meshes_are_refused(rt: HostRuntime) {
     for (bytes, want) in &MALFORMED {
-        assert_eq!(rt; read_mesh(alloc, bytes).err(), Some(*want));
+        assert!(rt; read_mesh(rt.alloc(), bytes).err() == Some(*want));
     }
+}
+
+#[test]
+fn meshes_are_read(rt: HostRuntime) {
     for (bytes, kept, dropped) in &MESHES {
-        let mesh = read_mesh(alloc, bytes)?;
-        assert_eq!(rt; mesh.facets.len(), *kept);
-        assert_eq!(rt; mesh.dropped, *dropped);
+        assert!(rt; counts(rt.alloc(), bytes) == Some((*kept, *dropped)));
     }
-    let mesh = read_mesh(alloc, ROUNDED)?;
     let facet = Facet {
         a: Point3 {
             x: 1001,
@@ -280,25 +299,15 @@ fn meshes_and_refusals(rt: HostRuntime) -> Result<(), Fail> {
             z: 3_000,
         },
     };
-    assert_eq!(rt; mesh.facets.as_slice(), [facet].as_slice());
-    Ok(())
+    assert!(rt; has_one_facet(rt.alloc(), ROUNDED, &facet));
 }
 
 #[test]
 fn binary_files_are_told_by_their_length(rt: HostRuntime) {
     let mut bytes = [b' '; 684];
     bytes[..5].copy_from_slice(b"solid");
-    bytes[80] = 12;
-    bytes[81] = 0;
-    bytes[82] = 0;
-    bytes[83] = 0;
-    assert_eq!(rt; read_mesh(rt.alloc(), &bytes).err(), Some(Binary));
-    assert_eq!(rt;
-        read_mesh(rt.alloc(), &bytes[..683]).err(),
-        Some(Expected(FacetOrEndsolid, 683))
-    );
-    assert_eq!(rt;
-        read_mesh(rt.alloc(), &[b' '; 84]).err(),
-        Some(Expected(Solid, 84))
-    );
+    bytes[80..84].copy_from_slice(&[12, 0, 0, 0]);
+    assert!(rt; read_mesh(rt.alloc(), &bytes).err() == Some(Binary));
+    let shorter = read_mesh(rt.alloc(), &bytes[..683]).err();
+    assert!(rt; shorter == Some(Expected(FacetOrEndsolid, 683)));
 }

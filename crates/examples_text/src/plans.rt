@@ -1,10 +1,8 @@
-use super::PlanRead::{Line, Missing, Trailing};
-use super::*;
+use plan_text::PlanRead::{Line, Missing, Trailing};
+use plan_text::{PlanFile, PlanRead, State, read_plan, write_plan};
 use seq_model::Place;
 use seq_model::What::{Extent, Grid, Header, Place as PlaceLine, Scale, State as StateLine};
 use std::alloc::{AllocError, Global};
-use std::process::Abort;
-use std::test::Fail;
 
 // six lines, of 10, 12, 9, 11, 8 and 12 bytes
 static FOUND: &[u8] = b"seqplan 1\nstate found\ngrid 100\nextent 100\nscale 1\nplace 0 1 1\n";
@@ -14,35 +12,38 @@ fn place_of(alloc: Global, text: &[u8]) -> Result<usize, PlanRead> {
     Ok(read_plan(alloc, text)?.1)
 }
 
-#[test]
-fn a_plan_is_read_and_written_again(rt: HostRuntime) -> Result<(), Fail> {
-    let (file, place) = read_plan(rt.alloc(), FOUND)?;
-    let text = write_plan(rt.alloc(), &file)?;
+fn is_found(file: &PlanFile) -> bool {
     let places = [Place {
         object: 0,
         x: 1,
         y: 1,
     }];
-    assert_eq!(rt;
-        (
-            place,
-            file.state,
-            file.grid,
-            file.extent,
-            file.plan.scale,
-            file.plan.places.as_slice(),
-            text.as_slice()
-        ),
-        (62, State::Found, 100, 100, 1, places.as_slice(), FOUND)
-    );
-    Ok(())
+    file.state == State::Found
+        && (file.grid, file.extent, file.plan.scale) == (100, 100, 1)
+        && file.plan.places.as_slice() == places.as_slice()
+}
+
+// Whether the plan is read with its values, and the same text is written of it.
+fn is_written_again(alloc: Global) -> bool {
+    let Ok((file, place)) = read_plan(alloc, FOUND) else {
+        return false;
+    };
+    match write_plan(alloc, &file) {
+        Ok(text) => place == 62 && is_found(&file) && text.as_slice() == FOUND,
+        Err(_) => false,
+    }
+}
+
+#[test]
+fn a_plan_is_read_and_written_again(rt: HostRuntime) {
+    assert!(rt; is_written_again(rt.alloc()));
 }
 
 #[test]
 fn no_prefix_is_a_plan_but_one(rt: HostRuntime) {
     for (len, _) in FOUND.iter().enumerate() {
         let wanted = if len == 50 { Ok(50) } else { Err(Missing) };
-        assert_eq!(rt; place_of(rt.alloc(), &FOUND[..len]), wanted);
+        assert!(rt; place_of(rt.alloc(), &FOUND[..len]) == wanted);
     }
 }
 
@@ -245,35 +246,30 @@ fn with_sixteen_places(alloc: Global, rest: &[u8]) -> Result<Vec<u8>, AllocError
     Ok(text)
 }
 
-fn see_behind_sixteen(
-    rt: &impl Abort,
-    alloc: Global,
-    rest: &[u8],
-    wanted: Result<usize, PlanRead>,
-) -> Result<(), Fail> {
-    let text = with_sixteen_places(alloc, rest)?;
-    assert_eq!(rt; place_of(alloc, &text), wanted);
-    Ok(())
+fn behind_sixteen(alloc: Global, rest: &[u8]) -> Result<usize, PlanRead> {
+    match with_sixteen_places(alloc, rest) {
+        Ok(text) => place_of(alloc, &text),
+        Err(_) => Err(PlanRead::NoMemory),
+    }
 }
 
 #[test]
 fn plans_are_read(rt: HostRuntime) {
     for (text, place) in &READ {
-        assert_eq!(rt; place_of(rt.alloc(), text), Ok(*place));
+        assert!(rt; place_of(rt.alloc(), text) == Ok(*place));
     }
 }
 
 #[test]
 fn plans_are_refused(rt: HostRuntime) {
     for (text, refusal) in &REFUSED {
-        assert_eq!(rt; place_of(rt.alloc(), text), Err(*refusal));
+        assert!(rt; place_of(rt.alloc(), text) == Err(*refusal));
     }
 }
 
 #[test]
-fn no_place_line_follows_the_sixteenth(rt: HostRuntime) -> Result<(), Fail> {
+fn no_place_line_follows_the_sixteenth(rt: HostRuntime) {
     for (rest, wanted) in &BEHIND_SIXTEEN {
-        see_behind_sixteen(&rt, rt.alloc(), rest, *wanted)?;
+        assert!(rt; behind_sixteen(rt.alloc(), rest) == *wanted);
     }
-    Ok(())
 }
