@@ -23,6 +23,3 @@ mod writing;
 pub use block::{CertRead, Head, Kind};
 pub use reading::read_tree;
 pub use writing::write_tree;
-
-#[cfg(test)]
-mod tests;

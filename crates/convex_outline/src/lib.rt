@@ -119,6 +119,3 @@ pub fn hull(alloc: Global, spots: &[Spot]) -> Result<Vec<Spot>, NoMemory>
     }
     Ok(corners_of(alloc, sorted)?)
 }
-
-#[cfg(test)]
-mod tests;

@@ -17,6 +17,3 @@ pub use around::{next_side, sides_of};
 pub use inside::strictly_in;
 pub use rows::{SideRow, side_row};
 pub use values::support;
-
-#[cfg(test)]
-mod tests;

@@ -70,6 +70,3 @@ pub fn open_edges_are_a_sum_over_pairs()
     ensures every { (facets : List Facet) → IsSumOverPairs facets }
     ensures some { (facets : List Facet) → HasEachOpen facets (each_once (edges facets)) }
 {}
-
-#[cfg(test)]
-mod tests;

@@ -27,6 +27,3 @@ mod zones;
 
 pub use objects::object;
 pub use slice::Slice;
-
-#[cfg(test)]
-mod tests;

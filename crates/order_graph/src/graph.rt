@@ -109,6 +109,3 @@ impl OrderGraph {
         order_of(self.n, &before)
     }
 }
-
-#[cfg(test)]
-mod tests;

@@ -17,6 +17,3 @@ mod writing;
 pub use file::{PlanFile, State};
 pub use reading::{PlanRead, read_plan};
 pub use writing::write_plan;
-
-#[cfg(test)]
-mod tests;

@@ -13,6 +13,3 @@ mod bars;
 
 pub use bands::{bands_of, meets, some_bands_meet, zones_meet};
 pub use bars::bar_corners;
-
-#[cfg(test)]
-mod tests;

@@ -94,6 +94,3 @@ pub fn key_text(key: Key) -> &'static str
         Key::High => "high",
     }
 }
-
-#[cfg(test)]
-mod tests;

@@ -10,6 +10,3 @@ mod agenda;
 mod open_nodes;
 
 pub use agenda::{Agenda, Waiting};
-
-#[cfg(test)]
-mod tests;

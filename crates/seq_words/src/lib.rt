@@ -19,6 +19,3 @@ mod usage;
 
 pub use command::{Command, Opt, Words};
 pub use reading::read;
-
-#[cfg(test)]
-mod tests;

@@ -47,6 +47,3 @@ pub enum Stl {
     NoFacet,
     NoMemory,
 }
-
-#[cfg(test)]
-mod tests;

@@ -1,0 +1,16 @@
+use owned_lists::Items;
+use seq_model::Row;
+use std::alloc::{AllocError, Global};
+
+/// Rows of two variables, each a constant and its coefficients.
+pub fn rows_of(alloc: Global, rows: &[(i64, [i64; 2])]) -> Result<Vec<Row>, AllocError> {
+    let mut made = Vec::new(alloc);
+    for (c, a) in rows {
+        let mut items = Items::new(alloc);
+        for x in a {
+            items.push(*x)?;
+        }
+        made.push(Row { c: *c, a: items })?;
+    }
+    Ok(made)
+}

@@ -1,6 +1,0 @@
-use Rattle.std.proofs.Common.{All}
-use Rattle.seq_model.specs.Bounds.{IsNearFacet}
-use Rattle.mesh_slices.proofs.tests.add_cover.Given as goal
-
-abbrev pub invariant-loop-place : goal.invariant-loop-place
-invariant-loop-place l = All IsNearFacet l.facets.items

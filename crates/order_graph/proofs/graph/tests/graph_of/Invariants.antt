@@ -1,5 +1,0 @@
-use Rattle.std.proofs.Common.{◌≡◌, ◌≤◌, length}
-use Rattle.order_graph.proofs.graph.tests.graph_of.Given as goal
-
-abbrev pub invariant-loop-i : goal.invariant-loop-i
-invariant-loop-i l = record { same : l.graph.objects ≡ l.n; few : length l.graph.held ≤ l.i-index }
