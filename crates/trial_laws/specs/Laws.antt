@@ -6,3 +6,4 @@ pub mod Solids
 pub mod Layers
 pub mod Bands
 pub mod Files
+pub mod Descriptions
