@@ -8,8 +8,14 @@
 #![tactic(auto)]
 
 ghost use Rattle.std.specs.Prelude.{ℕ, ◌≤◌};
-ghost use Rattle.seq_trial.specs.Towers.{mesh_text};
-ghost use Rattle.trial_laws.specs.Made.{IsMadeMesh, facets_at};
+ghost use Rattle.printer_text.specs.Printers.{DescribedBy};
+ghost use Rattle.seq_trial.specs.Towers.{mesh_text, printer_text};
+ghost use Rattle.trial_laws.specs.Made.{IsMadeMesh, facets_at, made_description};
+
+/// The made description states the made printer.
+pub fn the_made_printer_is_described()
+    ensures { DescribedBy printer_text made_description }
+{}
 
 /// A made mesh is read as twelve facets for each layer of its tower, and it can be sliced.
 pub fn a_made_mesh_can_be_used()

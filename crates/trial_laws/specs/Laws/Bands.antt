@@ -1,11 +1,11 @@
 -- A mesh that is from 0 to 100 mm high has at most ten bands of 10 mm.
-use Rattle.std.proofs.Common.{◌≡◌, ℕ, ◌≤◌, ℤ, pos, neg_ℤ, ◌-ℤ◌, ◌*ℤ◌, ◌≤ℤ◌, List, [], ◌∷◌, fold, max, unsigned_abs, refl, arith}
+use Rattle.std.proofs.Common.{◌≤◌, ℤ, pos, neg_ℤ, ◌≤ℤ◌, List, [], ◌∷◌, fold, max, unsigned_abs, arith}
 use Rattle.std.proofs.lemmas.Int.{ints, clamps}
 use Rattle.std.specs.Int.{int_max, int_min}
 use Rattle.integer_laws.specs.Extremes.{greatest, least}
 use Rattle.integer_laws.specs.Laws.Quotients.{ceil_is}
 use Rattle.integer_laws.specs.Quotients.{IsCeil, ceil}
-use Rattle.seq_model.specs.Bands.{band_count, height_of, heights, least_z}
+use Rattle.seq_model.specs.Bands.{band_count, height_of, heights}
 use Rattle.seq_model.specs.declared.mesh.Facet.{Facet}
 use Rattle.trial_laws.specs.Laws.Solids.{AreLow, IsLow}
 

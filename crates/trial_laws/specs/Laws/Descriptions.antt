@@ -1,11 +1,17 @@
--- The made description, as a reader of TOML takes it.
-use Rattle.std.proofs.Common.{◌≡◌, ℕ, ℤ, pos, neg_ℤ, List, codes, refl, Some}
+-- The made description is read.
+--
+--   made_tree     the tree of its text
+--   described     it states the made printer
+use Rattle.std.proofs.Common.{◌≡◌, ℤ, pos, neg_ℤ, codes, refl, Some, Ok}
 use Rattle.std.specs.Char.{encode_utf8}
 use Rattle.std.specs.Prelude.{IsUtf8}
+use Rattle.printer_text.specs.Printers.{DescribedBy, description_in, outline_in, part_in, top_in}
+use Rattle.printer_text.specs.Values.{corners_in, key_at, key_if, name_in, tables_in}
 use Rattle.seq_trial.specs.Towers.{printer_text}
 use Rattle.toml.proofs.OnLiterals.{toml_on_literals}
-use Rattle.toml.specs.Data.{Data, array, integer, string, table, Items, item, no_items, Members, member, no_members}
+use Rattle.toml.specs.Data.{Data, array, integer, string, table, item, no_items, Members, member, no_members}
 use Rattle.toml.specs.Parse.{parse_document}
+use Rattle.trial_laws.specs.Made.{made_description}
 
 abbrev pair : ℤ → ℤ → Data
 pair x y = array (item (integer x) (item (integer y) no_items))
@@ -33,3 +39,10 @@ parsed = refl
 is_text : IsUtf8 printer_text
 unfolding encode_utf8
 is_text = (printer_text, (refl, refl))
+
+stated : description_in made_tree ≡ Ok made_description
+unfolding description_in top_in part_in outline_in key_at key_if tables_in name_in corners_in
+stated = refl
+
+pub described : DescribedBy printer_text made_description
+described = record { tree = made_tree; is_tree = record { text = is_text; parsed = parsed }; states = stated }

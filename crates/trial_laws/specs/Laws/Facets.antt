@@ -2,7 +2,7 @@
 --
 --   point_of v, facet_of a b c    a corner and a facet in micrometres
 --   vertex_at, facet_at           the lines of a vertex, and those of a facet behind its first word, are read as these
-use Rattle.std.proofs.Common.{◌≡◌, ℕ, zero, suc, ◌+◌, ◌*◌, ◌-◌, ◌<◌, ◌≤◌, ℤ, pos, true, List, [], ◌∷◌, ◌++◌, length, drop, refl, sym, ap, ◌∙◌, subst, arith, append_assoc, codes, Ok}
+use Rattle.std.proofs.Common.{◌≡◌, ℕ, ◌*◌, ◌≤◌, pos, List, [], ◌∷◌, ◌++◌, drop, refl, ap, ◌∙◌, arith, append_assoc, codes, Ok}
 use Rattle.seq_model.specs.declared.mesh.Facet.{Facet}
 use Rattle.seq_model.specs.declared.mesh.Point3.{Point3}
 use Rattle.seq_num.specs.Spelling.{spelling}
@@ -10,10 +10,9 @@ use Rattle.seq_trial.specs.Towers.{facet_text, vertex_line}
 use Rattle.seq_trial.specs.declared.facets.Vertex.{Vertex}
 use Rattle.stl_text.specs.Grammar.{facet, normal, vertex}
 use Rattle.stl_text.specs.Reading.{passes}
-use Rattle.stl_text.specs.Words.{is_black}
 use Rattle.stl_text.specs.declared.Keyword.TheVariants as Keywords
 use Rattle.trial_laws.specs.Laws.Numbers.{number_at}
-use Rattle.trial_laws.specs.Laws.Words.{any_word_at, keyword_at, passes_none}
+use Rattle.trial_laws.specs.Laws.Words.{any_word_at, keyword_at}
 
 abbrev pub point_of : Vertex → Point3
 point_of v = record { x = pos (1_000 * v.x); y = pos (1_000 * v.y); z = pos (1_000 * v.z) }

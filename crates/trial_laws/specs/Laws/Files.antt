@@ -3,16 +3,15 @@
 --   not_binary      a short text without a byte 0 isn't taken for a binary mesh
 --   ended           behind the last line of a mesh nothing is left to read
 --   mesh_made       the text of a made mesh is read as the facets of its tower
-use Rattle.std.proofs.Common.{◌≡◌, ℕ, zero, suc, ◌+◌, ◌*◌, ◌-◌, ◌<◌, ◌≤◌, Bool, true, ◌&&◌, nat_le, List, [], ◌∷◌, ◌++◌, length, length-append, length-drop, get_or, drop, map, codes, refl, sym, ap, ◌∙◌, subst, arith, append_assoc, Some, None, Ok}
+use Rattle.std.proofs.Common.{◌≡◌, ℕ, zero, suc, ◌<◌, ◌≤◌, true, nat_le, List, [], ◌∷◌, ◌++◌, length, length-append, length-drop, get_or, drop, map, codes, refl, sym, ap, ◌∙◌, subst, arith, None, Ok}
 use Rattle.std.proofs.lemmas.Bool.Decides.{nat_tests}
 use Rattle.std.specs.Char.{to_ascii_lowercase}
 use Rattle.std.specs.List.{list_all}
 use Rattle.seq_model.specs.declared.mesh.Facet.{Facet}
-use Rattle.seq_num.specs.Spelling.{spelling}
 use Rattle.seq_trial.specs.Draws.{later}
 use Rattle.seq_trial.specs.Towers.{mesh_text, name_of, tower_at, tower_text}
 use Rattle.stl_text.specs.Grammar.{closing, opening, part}
-use Rattle.stl_text.specs.Meshes.{Body, File, IsBinary, count, end, facets_announced, nothing}
+use Rattle.stl_text.specs.Meshes.{Body, IsBinary, count, end, nothing}
 use Rattle.stl_text.specs.Reading.{no, passes, yes}
 use Rattle.stl_text.specs.Words.{ends_line, is_black, is_white, IsFirst}
 use Rattle.stl_text.specs.declared.Keyword.TheVariants as Keywords
@@ -20,7 +19,7 @@ use Rattle.stl_text.specs.declared.parts.Part.TheVariants as Parts
 use Rattle.trial_laws.specs.Laws.Bands.{ten_bands}
 use Rattle.trial_laws.specs.Laws.Layers.{few_higher, tower_solid}
 use Rattle.trial_laws.specs.Laws.Numbers.{is_plain, spelled_in_line, spelled_plain, spelled_short}
-use Rattle.trial_laws.specs.Laws.Solids.{AreLow, found_of, plain_both}
+use Rattle.trial_laws.specs.Laws.Solids.{found_of, plain_both}
 use Rattle.trial_laws.specs.Made.{IsMadeMesh, facets_at}
 use Rattle.trial_laws.specs.Laws.Words.{and_true, first_at_end, keyword_at, passes_none, rest_at, word_at}
 
@@ -64,7 +63,7 @@ ended bytes at sp o n small white e =
     let black : IsFirst is_black bytes r.to r.to = subst (λ k. IsFirst is_black bytes k k) at_end (first_at_end is_black bytes) in
     let blank : IsFirst is_white bytes r.to r.to = subst (λ k. IsFirst is_white bytes k k) at_end (first_at_end is_white bytes) in
     let none : closing bytes w.word.to (Ok None) =
-        passes r.to r.reads (passes (record { from = r.to; to = r.to }) (record { word = record { from = r.to; to = r.to }; is = record { starts = black; ends = blank }; given = refl }) (no (λ h. absurd (omega (arith, h))) refl)) in
+    passes r.to r.reads (passes (record { from = r.to; to = r.to }) (record { word = record { from = r.to; to = r.to }; is = record { starts = black; ends = blank }; given = refl }) (no (λ h. absurd (omega (arith, h))) refl)) in
     passes w.word (record { word = w.word; is = w.is; given = refl })
     (no (λ h. not_facet (sym (ap (map to_ascii_lowercase) w.spelled) ∙ h))
     (yes (ap (map to_ascii_lowercase) w.spelled) (passes None none refl)))
@@ -104,8 +103,8 @@ mesh_made o s small =
     let opened : opening bytes 0 (Ok r.to) = passes k.to k.reads r.reads in
     let few : length t.facets ≤ 240 = omega (arith, t.count, few_higher s) in
     let body : Body bytes r.to nothing (Ok (found_of t.facets)) =
-        t.are.reads bytes r.to [] (last_line o) [] (Ok (found_of t.facets)) refl r.behind (omega (arith, few))
-        (λ to sp white e. end (ended bytes to sp o (count (found_of t.facets)) small white e) refl) in
+    t.are.reads bytes r.to [] (last_line o) [] (Ok (found_of t.facets)) refl r.behind (omega (arith, few))
+    (λ to sp white e. end (ended bytes to sp o (count (found_of t.facets)) small white e) refl) in
     let some : 0 < count (found_of t.facets) = omega (arith, t.count) in
     record {
       facets = t.facets;

@@ -3,13 +3,12 @@
 --   Fits size x            a layer drawn in by x is 4 mm wide and deep or more, in a tower of at most 24 mm
 --   layer_solid            the text of a layer is one of twelve facets
 --   tower_solid            and that of a tower of twelve for each layer
-use Rattle.std.proofs.Common.{◌≡◌, ℕ, zero, suc, ◌+◌, ◌*◌, ◌-◌, ◌/◌, ◌%◌, ◌<◌, ◌≤◌, Bool, true, false, ◌&&◌, nat_le, cond, List, ◌++◌, refl, sym, subst, arith}
+use Rattle.std.proofs.Common.{◌≡◌, ℕ, zero, suc, ◌+◌, ◌*◌, ◌-◌, ◌<◌, ◌≤◌, Bool, true, false, nat_le, cond, ◌++◌, refl, sym, subst, arith}
 use Rattle.std.proofs.lemmas.Bool.Decides.{nat_tests}
-use Rattle.seq_trial.specs.Draws.{drawn, later, next_state}
+use Rattle.seq_trial.specs.Draws.{drawn, next_state}
 use Rattle.seq_trial.specs.Towers.{first, fits, floor_text, fourth, higher_text, layer_text, narrowed, roof_text, second, third, tower_at, tower_text, wall_text, walls_text}
 use Rattle.seq_trial.specs.declared.facets.Vertex.{Vertex}
 use Rattle.seq_trial.specs.declared.tower.Size.{Size}
-use Rattle.seq_trial.specs.declared.tower.Tower.{Tower}
 use Rattle.trial_laws.specs.Laws.Facets.{IsSmall}
 use Rattle.trial_laws.specs.Laws.Solids.{Apart, in_x, in_y, in_z, IsSolidText, solid_both, solid_facet, solid_none}
 use Rattle.trial_laws.specs.Laws.Words.{and_true}
@@ -108,7 +107,6 @@ higher_solid (suc left) size low x s f h =
     let next = narrowed_fits size x (drawn 2 s) f in
     let more = solid_both _ _ 12 (12 * left) (layer_solid size (narrowed size x (drawn 2 s)) next low (omega (arith, h))) (higher_solid left size (low + 5) (narrowed size x (drawn 2 s)) (next_state s) next (omega (arith, h))) in
     subst (IsSolidText (higher_text (suc left) size low x s)) (omega arith) more
-
 
 pub few_higher : (s : ℕ) → (tower_at s).higher < 20
 few_higher s = omega arith

@@ -3,7 +3,7 @@
 --   spelled_black    no byte of a spelling is white; nor does one end a line (`spelled_in_line`), nor is one 0 (`spelled_plain`)
 --   spelled_reads    it is read as 1,000 times the number, in micrometres
 --   number_at        so is a spelling behind white bytes
-use Rattle.std.proofs.Common.{◌≡◌, ℕ, zero, suc, ◌+◌, ◌*◌, ◌-◌, ◌<◌, ◌≤◌, ◌^◌, ℤ, pos, ◌*ℤ◌, Bool, true, false, not, ◌&&◌, nat_le, List, [], ◌∷◌, ◌++◌, length, drop, decimal, unsigned_abs, refl, sym, ap, ◌∙◌, subst, arith, Ok, None, Result}
+use Rattle.std.proofs.Common.{◌≡◌, ℕ, ◌*◌, ◌<◌, ◌≤◌, ◌^◌, ℤ, pos, ◌*ℤ◌, Bool, true, not, nat_le, List, [], ◌∷◌, ◌++◌, length, drop, decimal, refl, sym, ap, ◌∙◌, subst, arith, Ok, None}
 use Rattle.std.proofs.lemmas.Bool.Decides.{nat_tests}
 use Rattle.std.proofs.lemmas.Fmt.{decimal_is_IsNumeral_wide, length-decimal-le}
 use Rattle.std.proofs.lemmas.Int.{ints}
@@ -12,12 +12,11 @@ use Rattle.std.proofs.lemmas.Str.Parse.{digit_at}
 use Rattle.std.specs.List.{list_all}
 use Rattle.std.specs.Str.Parse.{AllDigits, IsNumeral, digits_value}
 use Rattle.decimal_lengths.specs.Decimals.{Parts, absent}
-use Rattle.decimal_lengths.specs.Lengths.{IsLength, IsReadAs}
+use Rattle.decimal_lengths.specs.Lengths.{IsReadAs}
 use Rattle.seq_num.specs.Spelling.{spelling}
 use Rattle.stl_text.specs.Grammar.{number, length_of}
 use Rattle.stl_text.specs.Reading.{passes}
 use Rattle.stl_text.specs.Words.{is_white, is_black, ends_line, letters}
-use Rattle.stl_text.specs.declared.Stl.{Stl}
 use Rattle.trial_laws.specs.Laws.Words.{passes_none, word_at}
 
 -- a byte that isn't 0

@@ -4,7 +4,7 @@
 --   ReadsAs text facets        behind whatever was found before, a text that begins so gives these facets first; it is short and has no byte 0
 --   IsSolidText text n         a text of n such facets
 --   solid_facet, solid_both    a facet with three corners is one; two of them, one behind the other, are one
-use Rattle.std.proofs.Common.{◌≡◌, ℕ, zero, suc, ◌+◌, ◌*◌, ◌<◌, ◌≤◌, ℤ, pos, ◌≤ℤ◌, Bool, true, false, ◌&&◌, List, [], ◌∷◌, ◌++◌, length, length-append, drop, map, codes, refl, sym, ap, ◌∙◌, subst, arith, append_assoc, Ok, Result}
+use Rattle.std.proofs.Common.{◌≡◌, ℕ, ◌+◌, ◌*◌, ◌≤◌, ℤ, pos, ◌≤ℤ◌, Bool, true, false, ◌&&◌, List, [], ◌∷◌, ◌++◌, length, length-append, drop, map, codes, refl, sym, ap, ◌∙◌, subst, arith, append_assoc, Ok, Result}
 use Rattle.std.proofs.lemmas.Int.{ints}
 use Rattle.std.proofs.lemmas.List.{append-nil}
 use Rattle.std.proofs.lemmas.List.Folds.{list_all-append}
@@ -118,8 +118,13 @@ seven_lengths a b c d e f g = omega (arith, five_lengths a b c d (e ++ (f ++ g))
 
 line_short : (v : Vertex) → IsSmall v → length (vertex_line v) ≤ 25
 line_short v s =
-    omega (arith, seven_lengths (codes "vertex ") (spelling (pos v.x)) (codes " ") (spelling (pos v.y)) (codes " ") (spelling (pos v.z)) (codes "\n"),
-    spelled_short v.x s.x, spelled_short v.y s.y, spelled_short v.z (omega (arith, s.z)))
+    omega (
+      arith,
+      seven_lengths (codes "vertex ") (spelling (pos v.x)) (codes " ") (spelling (pos v.y)) (codes " ") (spelling (pos v.z)) (codes "\n"),
+      spelled_short v.x s.x,
+      spelled_short v.y s.y,
+      spelled_short v.z (omega (arith, s.z)),
+    )
 
 line_plain : (v : Vertex) → IsSmall v → list_all is_plain (vertex_line v) ≡ true
 line_plain v s =
@@ -133,8 +138,13 @@ line_plain v s =
 facet_short : (a b c : Vertex) → IsSmall a → IsSmall b → IsSmall c → length (facet_text a b c) ≤ 200
 unfolding facet_text
 facet_short a b c p q r =
-    omega (arith, five_lengths (codes "facet normal 0 0 0\nouter loop\n") (vertex_line a) (vertex_line b) (vertex_line c) (codes "endloop\nendfacet\n"),
-    line_short a p, line_short b q, line_short c r)
+    omega (
+      arith,
+      five_lengths (codes "facet normal 0 0 0\nouter loop\n") (vertex_line a) (vertex_line b) (vertex_line c) (codes "endloop\nendfacet\n"),
+      line_short a p,
+      line_short b q,
+      line_short c r,
+    )
 
 facet_plain : (a b c : Vertex) → IsSmall a → IsSmall b → IsSmall c → list_all is_plain (facet_text a b c) ≡ true
 unfolding facet_text
@@ -169,6 +179,6 @@ solid_facet a b c small_a small_b small_c a_b b_c c_a =
         let w = word_at bytes at sp (codes "facet") 32 _ there white refl (omega arith) refl in
         let f = facet_at bytes w.word.to a b c tail small_a small_b small_c w.behind in
         let stands : part bytes at (count (found_of before)) (Ok (Parts.Facet (facet_of a b c) f.to)) =
-            passes w.word (record { word = w.word; is = w.is; given = refl })
-            (yes (ap (map to_ascii_lowercase) w.spelled) (yes (omega (arith, room)) (passes (facet_of a b c, f.to) f.reads refl))) in
+        passes w.word (record { word = w.word; is = w.is; given = refl })
+        (yes (ap (map to_ascii_lowercase) w.spelled) (yes (omega (arith, room)) (passes (facet_of a b c, f.to) f.reads refl))) in
         facet stands (keeps three refl) (next f.to (10 ∷ []) refl f.behind)

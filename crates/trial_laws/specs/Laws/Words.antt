@@ -4,14 +4,14 @@
 --   word_at                     a word behind white bytes is the next one
 --   keyword_at, any_word_at     so it is read as the keyword, or as any word
 --   rest_at                     a line that is ended by a line feed is read to behind it
-use Rattle.std.proofs.Common.{◌≡◌, ℕ, zero, suc, ◌+◌, ◌-◌, ◌<◌, ◌≤◌, ◌⊎◌, inl, inr, Bool, true, false, not, ◌&&◌, List, [], ◌∷◌, ◌++◌, length, get_or, take, drop, refl, sym, ap, ◌∙◌, subst, arith, map, min, Ok}
+use Rattle.std.proofs.Common.{◌≡◌, ℕ, zero, suc, ◌+◌, ◌-◌, ◌<◌, ◌≤◌, ◌⊎◌, inl, inr, Bool, true, false, not, ◌&&◌, List, [], ◌∷◌, ◌++◌, length, get_or, take, drop, refl, ap, ◌∙◌, subst, arith, map, min, Ok}
 use Rattle.std.proofs.lemmas.Bool.{cases_lt}
 use Rattle.std.proofs.Math.Seq.{take-append_seam}
 use Rattle.std.specs.Char.{to_ascii_lowercase}
 use Rattle.std.specs.List.{list_all}
 use Rattle.stl_text.specs.Grammar.{any_word, keyword, rest, text_of}
 use Rattle.stl_text.specs.Reading.{passes, yes}
-use Rattle.stl_text.specs.Words.{is_white, is_black, ends_line, IsFirst, IsNext, IsRest, letters}
+use Rattle.stl_text.specs.Words.{is_white, is_black, ends_line, IsFirst, IsNext, letters}
 use Rattle.stl_text.specs.declared.Keyword.{Keyword}
 use Rattle.stl_text.specs.declared.words.Word.{Word}
 
