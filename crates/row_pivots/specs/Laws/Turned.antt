@@ -27,7 +27,7 @@ use Rattle.seq_model.specs.declared.row.Row.{Row}
 use Rattle.row_pivots.specs.Turns.{IsContent, prepared, quotients, turned_lines, unit_line}
 
 -- ---- the line of what enters, over the old free variables
-unit_says : (vars : ℕ) (rows : List Row) → AreRowsOf vars rows → (d : ℤ) (free : List ℕ) → InRange (vars + length rows) free → (s : ℕ) → s < length free
+pub unit_says : (vars : ℕ) (rows : List Row) → AreRowsOf vars rows → (d : ℤ) (free : List ℕ) → InRange (vars + length rows) free → (s : ℕ) → s < length free
     → Line vars rows d free (get_or free s 0) (unit_line (suc (length free)) (suc s) d)
 unit_says vars rows are d free small s h =
     line_from vars rows are d free small (get_or free s 0) (small (get_or free s 0) (get_or-In free s 0 h)) (unit_line (suc (length free)) (suc s) d) long each
