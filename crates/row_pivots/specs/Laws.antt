@@ -13,3 +13,4 @@ pub mod Turned
 pub mod Values
 pub mod WideRows
 pub mod Grown
+pub mod Shrunk
