@@ -161,7 +161,7 @@ row_says vars rows d basic free lines h row l are =
     ∙ ap (λ (t : List (List ℤ)). dot (row_line vars d basic free lines row) (column j (one vars ∷ t))) (sym (meanings_more vars rows row free h.small_free)))
 
 -- ---- the table
-fresh_more : (xs : List ℕ) (y : ℕ) → Fresh xs → (In y xs → ⊥) → Fresh (xs ++ y ∷ [])
+pub fresh_more : (xs : List ℕ) (y : ℕ) → Fresh xs → (In y xs → ⊥) → Fresh (xs ++ y ∷ [])
 fresh_more [] y f n = (λ i. i, tt)
 fresh_more (x ∷ xs) y f n = (λ i. by (In-append_cases xs (y ∷ []) x i), fresh_more xs y f.1 (λ i. n (inr i)))
   where
