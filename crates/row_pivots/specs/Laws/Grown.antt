@@ -129,7 +129,7 @@ row_number : (vars : ℕ) (rows : List Row) (d : ℤ) (basic free : List ℕ) (l
 row_number vars rows d basic free lines h row l j =
     dot-combination (row.c ∷ row.a) (row_lines vars d basic free lines) cs
     ∙ ap (dot (row.c ∷ row.a)) (ap₂ (λ a b. a ∷ b) (first_only (length free) d (get_or (one vars) j (pos 0)) (column j (map (meaning vars rows) free)))
-      (each_dot d (line_over d basic free lines) cs (λ z. get_or (meaning vars rows z) j (pos 0)) (range_with_len 0 vars) each ∙ ap (scale d) (map_map j (meaning vars rows) (range_with_len 0 vars))))
+    (each_dot d (line_over d basic free lines) cs (λ z. get_or (meaning vars rows z) j (pos 0)) (range_with_len 0 vars) each ∙ ap (scale d) (map_map j (meaning vars rows) (range_with_len 0 vars))))
     ∙ dot-scale_right d (row.c ∷ row.a) (column j (one vars ∷ map (meaning vars rows) (range_with_len 0 vars)))
     ∙ ap (λ t. d *ℤ t) (by_variables vars rows row.c row.a l j)
   where

@@ -15,9 +15,10 @@ loop-j-preserved c =
     let below : j < length v.free + 1 = search rules in
     let within : j < length line = omega (arith, long, below) in
     let fits : SFits w64 c.in-Some.x = search rules in
-    let x : c.in-Some.x ≡ get_or line j (pos 0) = c.small_sum.ensures.value c.in-Some.x c.in-Some.is ∙ c.row_sum.ensures.value in
-    (c.in_ok-push-in-Some.ensures.items ∙ ap₂ (λ (t : List ℤ) (y : ℤ). t ++ y ∷ []) c.loop-j.invariant.0 (to_z-of_z fits ∙ x) ∙ sym (take_more line j (pos 0) within),
-     small_more line j c.in-Some.x within c.loop-j.invariant.1 x (c.small_sum.ensures.small c.in-Some.x c.in-Some.is))
+    let x : c.in-Some.x ≡ get_or line j (pos 0) = c.small_sum.ensures.value c.in-Some.x c.in-Some.is ∙ c.row_sum.ensures.value in (
+      c.in_ok-push-in-Some.ensures.items ∙ ap₂ (λ (t : List ℤ) (y : ℤ). t ++ y ∷ []) c.loop-j.invariant.0 (to_z-of_z fits ∙ x) ∙ sym (take_more line j (pos 0) within),
+      small_more line j c.in-Some.x within c.loop-j.invariant.1 x (c.small_sum.ensures.small c.in-Some.x c.in-Some.is),
+    )
 
 pub returns-clause-held : goal.returns-clause-held
 returns-clause-held c =

@@ -8,10 +8,12 @@ loop-k-preserved c =
     let v = c.args.variables.now in
     let row = c.args.row.now in
     let k = c.loop-k.k in
-    let within : k < length row.a = search rules in
-    (c.and_variable-sum.ensures.value
-    ∙ ap₂ (λ (s x : ℤ). s +ℤ x *ℤ get_or (line_over c.args.den.now v.basic v.free c.args.lines.now k) c.args.j (pos 0)) c.loop-k.invariant.0 (ap (λ (l : List ℤ). get_or l k (pos 0)) c.as_slice-a.ensures)
-    ∙ sym (sum_next k c.args.j c.args.den.now v.basic v.free c.args.lines.now row within), c.and_variable-sum.ensures.within)
+    let within : k < length row.a = search rules in (
+      c.and_variable-sum.ensures.value
+          ∙ ap₂ (λ (s x : ℤ). s +ℤ x *ℤ get_or (line_over c.args.den.now v.basic v.free c.args.lines.now k) c.args.j (pos 0)) c.loop-k.invariant.0 (ap (λ (l : List ℤ). get_or l k (pos 0)) c.as_slice-a.ensures)
+          ∙ sym (sum_next k c.args.j c.args.den.now v.basic v.free c.args.lines.now row within),
+      c.and_variable-sum.ensures.within,
+    )
 
 pub returns-clause-value : goal.returns-clause-value
 returns-clause-value c =

@@ -17,9 +17,9 @@ returns-then-not-branch-clause-is c =
     let s = c.self.inside in
     let no = c.in_ok-push_numbers.ensures.wide (λ i. absurd (subst T (sym i ∙ c.if-not-branch.true) tt)) in
     let same : row_line (length row.a) s.den s.variables.basic s.variables.free c.as_slice.result.now row ≡ line_of t row =
-      ap (λ (l : List (List ℤ)). row_line (length row.a) s.den s.variables.basic s.variables.free l row) c.as_slice.ensures.value
-      ∙ ap (λ n. row_line n s.den s.variables.basic s.variables.free s.lines.items row) c.requires.long
-      ∙ ap (λ (v : Seen). row_line t.vars v.d v.basic v.free v.lines row) c.self.view_is in
+    ap (λ (l : List (List ℤ)). row_line (length row.a) s.den s.variables.basic s.variables.free l row) c.as_slice.ensures.value
+    ∙ ap (λ n. row_line n s.den s.variables.basic s.variables.free s.lines.items row) c.requires.long
+    ∙ ap (λ (v : Seen). row_line t.vars v.d v.basic v.free v.lines row) c.self.view_is in
     (λ all. no (subst (All Small) (sym same) all), refl)
 
 pub invariant_of-self-2 : goal.invariant_of-self-2
@@ -38,6 +38,8 @@ invariant_of-self-2 c =
     let all : AreLines (suc (length s.variables.free)) (s.lines.items ++ line ∷ []) = All-push (IsLine (suc (length s.variables.free))) s.lines.items line shape.2 (long, small) in
     let free : c.grow.new.self.free ≡ s.variables.free = c.grow.ensures.free in
     let more : length c.grow.new.self.basic ≡ length c.add_line.new.lines.items =
-      ap length c.in_ok-grow.ensures.basic ∙ length-more s.variables.basic _ ∙ ap suc shape.3 ∙ sym (length-more s.lines.items line) ∙ sym (ap length added) in
-    ((shape.0, shape.1, subst (λ (f : List ℕ). AreLines (suc (length f)) c.add_line.new.lines.items) (sym free) (subst (AreLines (suc (length s.variables.free))) (sym added) all), more),
-     c.self.invariant.1 ∙ ap (λ (f : List ℕ). suc (length f)) (sym free), ap length free ∙ c.self.invariant.2)
+    ap length c.in_ok-grow.ensures.basic ∙ length-more s.variables.basic _ ∙ ap suc shape.3 ∙ sym (length-more s.lines.items line) ∙ sym (ap length added) in (
+      (shape.0, shape.1, subst (λ (f : List ℕ). AreLines (suc (length f)) c.add_line.new.lines.items) (sym free) (subst (AreLines (suc (length s.variables.free))) (sym added) all), more),
+      c.self.invariant.1 ∙ ap (λ (f : List ℕ). suc (length f)) (sym free),
+      ap length free ∙ c.self.invariant.2,
+    )
