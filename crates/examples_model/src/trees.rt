@@ -18,11 +18,15 @@ pub fn two_cubes_dont_fit_45()
 /// A cycle runs along orders of the path: 0 before 1 and 1 before 0 are one, and 0 before 1 alone is none. It runs along them in their
 /// direction, the last object comes before the first, and one object, or none, is no cycle.
 pub fn cycles_of_a_path()
-    ensures two { Refutes two_cubes 100 (before 0 1 ∷ before 1 0 ∷ []) (Nodes.Cycle (0 ∷ 1 ∷ []) ∷ []) }
+    ensures two { Refutes two_cubes 100 (before 0 1 ∷ before 1 0 ∷ [])
+        (Nodes.Cycle (0 ∷ 1 ∷ []) ∷ []) }
     ensures one_way { Refutes two_cubes 100 (before 0 1 ∷ []) (Nodes.Cycle (0 ∷ 1 ∷ []) ∷ []) → ⊥ }
-    ensures other_way { Refutes two_cubes 100 (before 0 1 ∷ []) (Nodes.Cycle (1 ∷ 0 ∷ []) ∷ []) → ⊥ }
-    ensures three { Refutes three_cubes 100 (before 0 1 ∷ before 1 2 ∷ before 2 0 ∷ []) (Nodes.Cycle (0 ∷ 1 ∷ 2 ∷ []) ∷ []) }
-    ensures backwards { Refutes three_cubes 100 (before 0 1 ∷ before 1 2 ∷ before 2 0 ∷ []) (Nodes.Cycle (0 ∷ 2 ∷ 1 ∷ []) ∷ []) → ⊥ }
+    ensures other_way { Refutes two_cubes 100 (before 0 1 ∷ [])
+        (Nodes.Cycle (1 ∷ 0 ∷ []) ∷ []) → ⊥ }
+    ensures three { Refutes three_cubes 100 (before 0 1 ∷ before 1 2 ∷ before 2 0 ∷ [])
+        (Nodes.Cycle (0 ∷ 1 ∷ 2 ∷ []) ∷ []) }
+    ensures backwards { Refutes three_cubes 100 (before 0 1 ∷ before 1 2 ∷ before 2 0 ∷ [])
+        (Nodes.Cycle (0 ∷ 2 ∷ 1 ∷ []) ∷ []) → ⊥ }
     ensures one_object { Refutes two_cubes 100 (before 0 0 ∷ []) (Nodes.Cycle (0 ∷ []) ∷ []) → ⊥ }
     ensures no_object { Refutes two_cubes 100 (before 0 0 ∷ []) (Nodes.Cycle [] ∷ []) → ⊥ }
 {}
@@ -36,17 +40,23 @@ pub fn a_side_follows_its_order()
     ensures other_order { IsPath two_cubes (before 1 0 ∷ beyond east ∷ []) → ⊥ }
     ensures too_soon { IsPath two_cubes (beyond east ∷ before 0 1 ∷ []) → ⊥ }
     ensures no_side { IsPath two_cubes (before 0 1 ∷ beyond northeast ∷ []) → ⊥ }
-    ensures no_contact { IsPath tall_and_low (before 1 0 ∷ Choices.Side low_under_the_gantry east ∷ []) → ⊥ }
+    ensures no_contact { IsPath tall_and_low
+        (before 1 0 ∷ Choices.Side low_under_the_gantry east ∷ []) → ⊥ }
 {}
 
 /// A side node is of a contact that exists, even if it has no children: a cube has no zone 7, the printer no part 7, and there is no
 /// object 7.
 pub fn a_side_node_of_no_contact()
-    ensures zone_of_earlier { Refutes two_cubes 100 (before 0 1 ∷ []) (Nodes.Side (record { i = 0; zi = 7; part = 1; zj = 0; j = 1 }) 0 ∷ []) → ⊥ }
-    ensures zone_of_later { Refutes two_cubes 100 (before 0 1 ∷ []) (Nodes.Side (record { i = 0; zi = 0; part = 1; zj = 7; j = 1 }) 0 ∷ []) → ⊥ }
-    ensures part { Refutes two_cubes 100 (before 0 1 ∷ []) (Nodes.Side (record { i = 0; zi = 0; part = 7; zj = 0; j = 1 }) 0 ∷ []) → ⊥ }
-    ensures earlier { Refutes two_cubes 100 (before 7 1 ∷ []) (Nodes.Side (record { i = 7; zi = 0; part = 1; zj = 0; j = 1 }) 0 ∷ []) → ⊥ }
-    ensures later { Refutes two_cubes 100 (before 0 7 ∷ []) (Nodes.Side (record { i = 0; zi = 0; part = 1; zj = 0; j = 7 }) 0 ∷ []) → ⊥ }
+    ensures zone_of_earlier { Refutes two_cubes 100 (before 0 1 ∷ [])
+        (Nodes.Side (record { i = 0; zi = 7; part = 1; zj = 0; j = 1 }) 0 ∷ []) → ⊥ }
+    ensures zone_of_later { Refutes two_cubes 100 (before 0 1 ∷ [])
+        (Nodes.Side (record { i = 0; zi = 0; part = 1; zj = 7; j = 1 }) 0 ∷ []) → ⊥ }
+    ensures part { Refutes two_cubes 100 (before 0 1 ∷ [])
+        (Nodes.Side (record { i = 0; zi = 0; part = 7; zj = 0; j = 1 }) 0 ∷ []) → ⊥ }
+    ensures earlier { Refutes two_cubes 100 (before 7 1 ∷ [])
+        (Nodes.Side (record { i = 7; zi = 0; part = 1; zj = 0; j = 1 }) 0 ∷ []) → ⊥ }
+    ensures later { Refutes two_cubes 100 (before 0 7 ∷ [])
+        (Nodes.Side (record { i = 0; zi = 0; part = 1; zj = 0; j = 7 }) 0 ∷ []) → ⊥ }
 {}
 
 /// A tree is whole by the numbers of children that its nodes say. The tree of two cubes has leaves with two splits above them. A side node
@@ -55,7 +65,8 @@ pub fn trees_by_their_counts()
     ensures whole { IsWhole (tree (bound 2 1 4 1)) }
     ensures two_splits { IsWholeWithin 2 (tree (bound 2 1 4 1)) }
     ensures not_one { IsWholeWithin 1 (tree (bound 2 1 4 1)) → ⊥ }
-    ensures fewer_than_sides { IsWholeWithin 1 (tree_of (Nodes.Side first_contact 1 ∷ Nodes.Pending ∷ [])) }
+    ensures fewer_than_sides { IsWholeWithin 1
+        (tree_of (Nodes.Side first_contact 1 ∷ Nodes.Pending ∷ [])) }
     ensures child_missing { IsWhole (tree_of (Nodes.Order 0 1 ∷ Nodes.Pending ∷ [])) → ⊥ }
     ensures node_behind { IsWhole (tree_of (Nodes.Pending ∷ Nodes.Pending ∷ [])) → ⊥ }
     ensures no_node { IsWhole (tree_of []) → ⊥ }

@@ -22,7 +22,8 @@ pub fn a_form_of_even_numbers()
 /// 3 has there the constant 1 - 2^62 and the entries 3 * 2^61 of v and 1 of slack 2, so that it is wide, and the walk ends before it. No walk begins
 /// with what is no basis.
 pub fn a_walk_ends_before_a_wide_row()
-    ensures form { FormIs 2 wide_rows (0 ∷ 3 ∷ []) big ((pos 1 ∷ pos 0 ∷ pos 1 ∷ []) ∷ ((pos 1 -ℤ pos 2 *ℤ big) ∷ (pos 3 *ℤ big) ∷ pos 1 ∷ []) ∷ []) }
+    ensures form { FormIs 2 wide_rows (0 ∷ 3 ∷ []) big ((pos 1 ∷ pos 0 ∷ pos 1 ∷ [])
+        ∷ ((pos 1 -ℤ pos 2 *ℤ big) ∷ (pos 3 *ℤ big) ∷ pos 1 ∷ []) ∷ []) }
     ensures wide { WideAt 2 wide_rows (0 ∷ 3 ∷ []) 3 }
     ensures walk { WalkWide 2 wide_rows (0 ∷ 3 ∷ []) 3 }
     ensures from_the_slacks { EndsWide 2 wide_rows (2 ∷ 3 ∷ []) (0 ∷ 3 ∷ []) 3 }

@@ -1,5 +1,5 @@
 -- What the solver's answers show at a node: a contradiction of a path's rows closes it, as a line of a certificate; a point is one of the path.
-use Rattle.std.proofs.Common.{◌≡◌, ℕ, suc, ◌+◌, ◌*◌, ◌<◌, ◌≤◌, ◌^◌, List, [], ◌∷◌, length, map, All, refl, sym, ap, ap₂, subst, ◌∙◌, arith, ℤ, pos, negsuc, ◌≤ℤ◌, ◌<ℤ◌}
+use Rattle.std.proofs.Common.{◌≡◌, ℕ, suc, ◌+◌, ◌*◌, ◌<◌, ◌≤◌, ◌^◌, List, [], ◌∷◌, length, map, All, refl, sym, ap, ap₂, subst, ◌∙◌, arith, ℤ, pos, negsuc, ◌≤ℤ◌, ◌<ℤ◌, unsigned_abs}
 use Rattle.std.proofs.lemmas.Int.{ints}
 use Rattle.std.proofs.lemmas.List.{length-map}
 use Rattle.std.proofs.lemmas.List.Elements.{All-nil, All-cons, All-head, All-tail}
@@ -10,8 +10,6 @@ use Rattle.integer_laws.specs.Vectors.{zeros}
 use Rattle.node_looks.proofs.RowLaws.{rows_few}
 use Rattle.node_looks.proofs.ZeroLaws.{zero_on}
 use Rattle.node_looks.specs.Looks.{ClosesBy, HasZeroPlan, zero_point}
-use Rattle.node_looks.specs.Points.{IsPointOf, values}
-use Rattle.node_looks.specs.declared.points.SystemPoint.{SystemPoint}
 use Rattle.seq_model.specs.Dictionaries.{Rises}
 use Rattle.seq_model.specs.Splits.{Values, IsOn}
 use Rattle.seq_model.specs.Systems.{system, Contradiction, MeetsRows}
@@ -49,7 +47,7 @@ times_of (m ∷ mults) all =
     weak : (t : ℤ) → pos 1 ≤ℤ t → pos 0 ≤ℤ t
     weak t h = omega (arith, ints, h)
 
-pub bound_closes : (job : Job) (e : ℕ) (path : List Choice) (mults : List Mult) → length path < 2 ^ 31 → Contradiction (system job e path) mults → Rises (length (system job e path)) (map (λ (m : Mult). m.row) mults)
+pub bound_closes : (job : Job) (e : ℕ) (path : List Choice) (mults : List Mult) → length path ≤ 1_000_000 → Contradiction (system job e path) mults → Rises (length (system job e path)) (map (λ (m : Mult). m.row) mults)
     → All (λ (m : Mult). pos 1 ≤ℤ m.times) mults → 0 < length mults → length mults ≤ suc (2 * length job.objects) → AreShortest mults → ClosesBy job e path (Nodes.Bound mults)
 bound_closes job e path mults short is rises times some few shortest = record {
   is_leaf = tt;
@@ -63,6 +61,7 @@ bound_closes job e path mults short is rises times some few shortest = record {
     },
     λ k d l. let r = (is.each k d l).row in record { row = omega (arith, r, count); times = shortest.1 k d l },
   );
+  takes = times;
 }
   where
     many : length (map pair_of mults) ≡ length mults
@@ -75,29 +74,24 @@ bound_closes job e path mults short is rises times some few shortest = record {
     count = rows_few job e path (system job e path) refl short
 
 -- ---- points
-pub point_of : (job : Job) (e : ℕ) (path : List Choice) (at : SystemPoint) (d : ℤ) (u : List ℤ) → at.den ≡ d → at.nums ≡ u → MeetsRows (system job e path) d u → length u ≡ 2 * length job.objects
-    → d <ℤ pos (2 ^ 62) → IsPointOf job at
-point_of job e path at d u den nums meets many small = record {
-  many = ap length nums ∙ many;
-  one = subst (λ t. pos 1 ≤ℤ t) (sym den) meets.positive;
-  small = subst (λ t. t <ℤ pos (2 ^ 62)) (sym den) small;
-}
+pub small_size : (d : ℤ) → pos 1 ≤ℤ d → d <ℤ pos (2 ^ 62) → unsigned_abs d < 2 ^ 62
+small_size d one small = omega (arith, ints, one, small)
 
-pub point_on : (job : Job) (e : ℕ) (path : List Choice) (at : SystemPoint) (d : ℤ) (u : List ℤ) → at.den ≡ d → at.nums ≡ u → MeetsRows (system job e path) d u → length u ≡ 2 * length job.objects
-    → IsOn job e path (values at)
+pub small_den : (d : ℤ) → pos 1 ≤ℤ d → unsigned_abs d < 2 ^ 62 → d <ℤ pos (2 ^ 62)
+small_den d one small = omega (arith, ints, one, small)
+
+pub point_on : (job : Job) (e : ℕ) (path : List Choice) (at : Values) (d : ℤ) (u : List ℤ) → at.d ≡ d → at.u ≡ u → MeetsRows (system job e path) d u → length u ≡ 2 * length job.objects
+    → IsOn job e path at
 point_on job e path at d u den nums meets many = record {
-  meets = subst (λ t. MeetsRows (system job e path) t at.nums) (sym den) (subst (MeetsRows (system job e path) d) (sym nums) meets);
+  meets = subst (λ t. MeetsRows (system job e path) t at.u) (sym den) (subst (MeetsRows (system job e path) d) (sym nums) meets);
   many = ap length nums ∙ many;
 }
 
-pub zero_values : (job : Job) (at : SystemPoint) (d : ℤ) (u : List ℤ) → at.den ≡ d → at.nums ≡ u → d ≡ pos 1 → u ≡ zeros (2 * length job.objects) → values at ≡ zero_point job
-zero_values job at d u den nums one none = by (den ∙ one) (nums ∙ none)
+pub zero_values : (job : Job) (at : Values) (d : ℤ) (u : List ℤ) → at.d ≡ d → at.u ≡ u → d ≡ pos 1 → u ≡ zeros (2 * length job.objects) → at ≡ zero_point job
+zero_values job at d u den nums one none = ap₂ pair (den ∙ one) (nums ∙ none)
   where
     pair : ℤ → List ℤ → Values
     pair d u = record { d = d; u = u }
-
-    by : at.den ≡ pos 1 → at.nums ≡ zeros (2 * length job.objects) → values at ≡ zero_point job
-    by p q = ap₂ pair p q
 
 pub zero_meets : (job : Job) (e : ℕ) (path : List Choice) (rows : List Row) → rows ≡ system job e path → path ≡ [] → HasZeroPlan job e → MeetsRows rows (pos 1) (zeros (2 * length job.objects))
 zero_meets job e path rows same none h =

@@ -1,5 +1,5 @@
 -- The orders of a path: noted in a table, and held by a graph.
-use Rattle.std.proofs.Common.{◌≡◌, ◌≢◌, ℕ, ◌+◌, ◌*◌, ◌/◌, ◌%◌, ◌<◌, ◌≤◌, List, [], ◌∷◌, ◌++◌, length, get_or, set, replicate, take, drop, All, Contains, Bool, true, false, eqb, ◌&&◌, ◌||◌, refl, sym, ap, ap₂, subst, ◌∙◌, arith, length-append, get_or-set_other, inl, inr, ◌⊎◌}
+use Rattle.std.proofs.Common.{◌≡◌, ◌≢◌, ℕ, ◌+◌, ◌*◌, ◌<◌, ◌≤◌, List, [], ◌∷◌, ◌++◌, length, get_or, set, replicate, take, drop, All, Contains, Bool, true, false, eqb, ◌&&◌, ◌||◌, refl, sym, ap, ap₂, subst, ◌∙◌, arith, length-append, get_or-set_other, inl, inr, ◌⊎◌}
 use Rattle.std.proofs.lemmas.Bool.{eqb-true, eq-eqb, cases_lt}
 use Rattle.std.proofs.lemmas.Grind.{get_or-set_at}
 use Rattle.std.proofs.lemmas.List.{length-set, length-replicate, get_or-replicate}
@@ -7,7 +7,7 @@ use Rattle.std.proofs.lemmas.List.Elements.{All-push, All-contains, Contains-app
 use Rattle.std.specs.List.{AllZip}
 use Rattle.integer_laws.specs.Laws.Members.{In-from_contains, Contains-from_in}
 use Rattle.object_orders.specs.Orders.{Graph, IsAmong, IsSimpleCycle, ClosesCycle, EachNext}
-use Rattle.node_looks.specs.Held.{IsTable, IsOrderOf, HoldsOrders}
+use Rattle.node_looks.specs.Held.{ComesBefore, IsTable, IsOrderOf, HoldsOrders}
 use Rattle.plan_laws.specs.Laws.OnPath.{is_before, before_is, is_on, never}
 use Rattle.plan_laws.specs.Looking.{OnPath}
 use Rattle.seq_model.specs.Trees.{IsCycle}
@@ -131,25 +131,35 @@ closes_on_path path n i j held objects all among on c =
     cycle_on_path path n (held ++ (i, j) ∷ []) objects (All-push (IsOrderOf path n) held (i, j) all (among, on)) c.is_cycle
 
 -- ---- what the graph holds
-pub number_of : (i j k : ℕ) → j < 16 → 16 * i + j ≡ k → (k / 16 ≡ i) × (k % 16 ≡ j)
-number_of i j k l e = (omega arith, omega arith)
-
-pub holds_same : (path : List Choice) (n k : ℕ) (g : Graph) → HoldsOrders path n k g
-    → ((i j : ℕ) → i < n → j < n → i ≢ j → 16 * i + j ≡ k → OnPath path i j → ⊥) → HoldsOrders path n (k + 1) g
-holds_same path n k g is none = record {
+pub holds_past : (path : List Choice) (n i j k l : ℕ) (g : Graph) → HoldsOrders path n i j g → 16 * i + j ≤ 16 * k + l
+    → ((a b : ℕ) → a < n → b < n → a ≢ b → ComesBefore a b k l → OnPath path a b → ComesBefore a b i j) → HoldsOrders path n k l g
+holds_past path n i j k l g is more none = record {
   objects = is.objects;
-  few = omega (arith, is.few);
+  few = omega (arith, is.few, more);
   only = is.only;
-  all = λ i j l m apart below on. by i j l m apart on (cases_lt (16 * i + j) k) below;
+  all = λ a b p q apart before on. is.all a b p q apart (none a b p q apart before on) on;
 }
-  where
-    by : (i j : ℕ) → i < n → j < n → i ≢ j → OnPath path i j → ((16 * i + j < k) ⊎ (k ≤ 16 * i + j)) → 16 * i + j < k + 1 → Contains g.held (i, j)
-    by i j l m apart on (inl h) below = is.all i j l m apart h on
-    by i j l m apart on (inr h) below = absurd (none i j l m apart (omega arith) on)
 
-pub holds_more : (path : List Choice) (n k i j : ℕ) (g h : Graph) → HoldsOrders path n k g → n ≤ 16 → IsAmong n (i, j) → 16 * i + j ≡ k → OnPath path i j
-    → h ≡ record g { held = g.held ++ (i, j) ∷ [] } → HoldsOrders path n (k + 1) h
-holds_more path n k i j g h is small among number on e = subst (HoldsOrders path n (k + 1)) (sym e) held
+-- what comes before the next pair comes before this one, or is this one
+pub next_pair : (a b i j : ℕ) → ComesBefore a b i (j + 1) → ComesBefore a b i j ⊎ ((a ≡ i) × (b ≡ j))
+next_pair a b i j (inl h) = inl (inl h)
+next_pair a b i j (inr h) = by (cases_lt b j)
+  where
+    by : (b < j) ⊎ (j ≤ b) → ComesBefore a b i j ⊎ ((a ≡ i) × (b ≡ j))
+    by (inl k) = inl (inr (h.0, k))
+    by (inr k) = let less = h.1 in inr (h.0, omega (arith, less, k))
+
+pub holds_same : (path : List Choice) (n i j : ℕ) (g : Graph) → HoldsOrders path n i j g → (i ≢ j → OnPath path i j → ⊥) → HoldsOrders path n i (j + 1) g
+holds_same path n i j g is none = holds_past path n i j i (j + 1) g is (omega arith) (λ a b p q apart before on. by a b apart on (next_pair a b i j before))
+  where
+    by : (a b : ℕ) → a ≢ b → OnPath path a b → ComesBefore a b i j ⊎ ((a ≡ i) × (b ≡ j)) → ComesBefore a b i j
+    by a b apart on (inl h) = h
+    by a b apart on (inr h) =
+        absurd (none (λ e. apart (h.0 ∙ e ∙ sym h.1)) (subst (λ x. OnPath path x j) h.0 (subst (OnPath path a) h.1 on)))
+
+pub holds_more : (path : List Choice) (n i j : ℕ) (g h : Graph) → HoldsOrders path n i j g → IsAmong n (i, j) → OnPath path i j
+    → h ≡ record g { held = g.held ++ (i, j) ∷ [] } → HoldsOrders path n i (j + 1) h
+holds_more path n i j g h is among on e = subst (HoldsOrders path n i (j + 1)) (sym e) held
   where
     pair : ℕ → ℕ → ℕ × ℕ
     pair x y = (x, y)
@@ -157,17 +167,14 @@ holds_more path n k i j g h is small among number on e = subst (HoldsOrders path
     orders : List (ℕ × ℕ)
     orders = g.held ++ (i, j) ∷ []
 
-    by : (a b : ℕ) → a < n → b < n → a ≢ b → OnPath path a b → ((16 * a + b < k) ⊎ (k ≤ 16 * a + b)) → 16 * a + b < k + 1 → Contains orders (a, b)
-    by a b l m apart on (inl h) below = Contains-append_left g.held ((i, j) ∷ []) (a, b) (is.all a b l m apart h on)
-    by a b l m apart on (inr h) below =
-        let jn : j < n = among.1 in
-        let same = number_apart i j a b (omega arith) (omega arith) (omega arith) in
-        Contains-append_right g.held ((i, j) ∷ []) (a, b) (Contains-from_in ((i, j) ∷ []) (a, b) (inl (ap₂ pair (sym same.0) (sym same.1))))
+    by : (a b : ℕ) → a < n → b < n → a ≢ b → OnPath path a b → ComesBefore a b i j ⊎ ((a ≡ i) × (b ≡ j)) → Contains orders (a, b)
+    by a b l m apart on (inl k) = Contains-append_left g.held ((i, j) ∷ []) (a, b) (is.all a b l m apart k on)
+    by a b l m apart on (inr k) = Contains-append_right g.held ((i, j) ∷ []) (a, b) (Contains-from_in ((i, j) ∷ []) (a, b) (inl (ap₂ pair k.0 k.1)))
 
-    held : HoldsOrders path n (k + 1) (record g { held = orders })
+    held : HoldsOrders path n i (j + 1) (record g { held = orders })
     held = record {
       objects = is.objects;
       few = omega (arith, is.few, length-append g.held ((i, j) ∷ []));
       only = All-push (IsOrderOf path n) g.held (i, j) is.only (among, on);
-      all = λ a b l m apart below on. by a b l m apart on (cases_lt (16 * a + b) k) below;
+      all = λ a b l m apart before on. by a b l m apart on (next_pair a b i j before);
     }

@@ -102,7 +102,7 @@ sides_most [] = omega arith
 sides_most (Choices.Before i j ∷ path) = let r = sides_most path in omega (arith, r)
 sides_most (Choices.Side c d ∷ path) = let r = sides_most path in omega (arith, r)
 
-pub rows_few : (job : Job) (e : ℕ) (path : List Choice) (rows : List Row) → rows ≡ system job e path → length path < 2 ^ 31 → 2 * length job.objects + length rows < 2 ^ 32
+pub rows_few : (job : Job) (e : ℕ) (path : List Choice) (rows : List Row) → rows ≡ system job e path → length path ≤ 1_000_000 → 2 * length job.objects + length rows < 2 ^ 32
 rows_few job e path rows same short =
     let n = job.sound.few in
     let m = many_rows job e path in

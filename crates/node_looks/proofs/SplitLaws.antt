@@ -4,8 +4,15 @@ use Rattle.std.proofs.lemmas.List.{length-map, get_or_default}
 use Rattle.std.proofs.lemmas.List.Elements.{AllZip-get_or, All-head, All-tail, All-push}
 use Rattle.std.proofs.lemmas.Slice.Zip.{AllZip-long}
 use Rattle.std.specs.List.{AllZip}
+use Rattle.cert_text.specs.TreeText.{IsSpeltContact}
+use Rattle.node_looks.specs.Candidates.{IsOpenable, choices_of}
 use Rattle.node_looks.specs.Looks.{IsVisit, ClosesBy, SplitsBy}
+use Rattle.node_looks.specs.Sites.{IsSite, values}
+use Rattle.node_looks.specs.declared.site.Site.{Site}
+use Rattle.pair_constraints.specs.Keeping.{IsKept}
 use Rattle.pair_constraints.specs.Laws.Pairs.{few_of}
+use Rattle.pair_constraints.specs.declared.kept.Kept.{Kept}
+use Rattle.pair_constraints.specs.declared.limits.Limit.{Limit}
 use Rattle.plan_laws.specs.Looking.{OnPath, IsOnOrEarned, EarnsPair}
 use Rattle.search_laws.specs.Laws.FewSides.{few_at_contact}
 use Rattle.search_laws.specs.Laws.SideCounts.{three_at_contact}
@@ -35,34 +42,71 @@ visits n visit long each = record {
     below : (k p : ℕ) → p < length visit → get_or visit p k ≡ k → k < n
     below k p l e = omega (arith, long, l, e, place p k l)
 
-twice_mapped : (path : List Choice) (c : Contact) (dirs : List Dir) → map (also path) (map (Choices.Side c) dirs) ≡ map (λ dir. also path (Choices.Side c dir)) dirs
-twice_mapped path c [] = refl
-twice_mapped path c (dir ∷ dirs) = ap (λ t. also path (Choices.Side c dir) ∷ t) (twice_mapped path c dirs)
+contact_fits : (job : Job) (c : Contact) → IsContact job c → IsSpeltContact c
+contact_fits job c is =
+    let a = few_of job c.i is.i_in in
+    let b = few_of job c.j is.j_in in
+    let z = is.zi_in in
+    let w = is.zj_in in
+    let i = is.i_in in
+    let j = is.j_in in
+    let p = is.part_in in
+    let few = job.sound.few in
+    let parts = job.printer.parts_are.few in
+    record { i = omega (arith, few, i); zi = omega (arith, a, z); part = omega (arith, parts, p); zj = omega (arith, b, w); j = omega (arith, few, j) }
 
-pub few_sides : (job : Job) (c : Contact) (dirs : List Dir) → IsContact job c → AreSides (points_of job c) dirs → length dirs ≤ 8_008_036
+few_sides : (job : Job) (c : Contact) (dirs : List Dir) → IsContact job c → AreSides (points_of job c) dirs → length dirs ≤ 8_008_036
 few_sides job c dirs is sides = few_at_contact job c (length dirs) (record { is = is; dirs = dirs; sides = sides; many = refl })
 
 some_sides : (job : Job) (c : Contact) (dirs : List Dir) → IsContact job c → AreSides (points_of job c) dirs → 3 ≤ length dirs
 some_sides job c dirs is sides = three_at_contact job c (length dirs) (record { is = is; dirs = dirs; sides = sides; many = refl })
 
-pub side_splits : (job : Job) (e : ℕ) (path : List Choice) (c : Contact) (dirs : List Dir) (n : ℕ) (choices : List Choice) → n ≡ length dirs → choices ≡ map (Choices.Side c) dirs
-    → (c.i < 2 ^ 32) × (c.zi < 2 ^ 32) × (c.part < 2 ^ 32) × (c.zj < 2 ^ 32) × (c.j < 2 ^ 32)
-    → IsSoundNode job e path (Nodes.Side c n) → Earned job e path (Nodes.Side c n)
-    → AreSides (points_of job c) dirs → SplitsBy job e path (Nodes.Side c n) choices
-side_splits job e path c dirs n choices count are fits sound earned sides = subst (SplitsBy job e path (Nodes.Side c n)) (sym are) by
-  where
-    many : length (map (Choices.Side c) dirs) ≡ length dirs
-    many = length-map dirs (Choices.Side c)
+abbrev dirs_of : Kept → List Dir
+dirs_of k = map (λ (l : Limit). l.dir) k.limits
 
-    by : SplitsBy job e path (Nodes.Side c n) (map (Choices.Side c) dirs)
+pub few_limits : (job : Job) (k : Kept) → IsKept job k → length k.limits ≤ 8_008_036
+few_limits job k is =
+    let l = few_sides job k.contact (dirs_of k) is.is is.limits.sides in
+    omega (arith, l, length-map k.limits (λ (l : Limit). l.dir))
+
+twice_mapped : (path : List Choice) (c : Contact) (limits : List Limit)
+    → map (also path) (map (λ (l : Limit). Choices.Side c l.dir) limits) ≡ map (λ dir. also path (Choices.Side c dir)) (map (λ (l : Limit). l.dir) limits)
+twice_mapped path c [] = refl
+twice_mapped path c (l ∷ limits) = ap (λ t. also path (Choices.Side c l.dir) ∷ t) (twice_mapped path c limits)
+
+pub many_choices : (k : Kept) → length (choices_of k) ≡ length k.limits
+many_choices k = length-map k.limits (λ (l : Limit). Choices.Side k.contact l.dir)
+
+pub opens : (site : Site) (k : Kept) (n : ℕ) (choices : List Choice) → IsSite site → IsOpenable site k → n ≡ length k.limits → choices ≡ choices_of k → SplitsBy site.job.now site.extent site.path.now (Nodes.Side k.contact n) choices
+opens site k n choices is may count are = subst (SplitsBy site.job.now site.extent site.path.now (Nodes.Side k.contact n)) (sym are) by
+  where
+    c : Contact
+    c = k.contact
+
+    job : Job
+    job = site.job.now
+
+    many : length (choices_of k) ≡ length k.limits
+    many = many_choices k
+
+    sides : length (dirs_of k) ≡ length k.limits
+    sides = length-map k.limits (λ (l : Limit). l.dir)
+
+    some : 3 ≤ length k.limits
+    some = let l = some_sides job c (dirs_of k) may.kept.is may.kept.limits.sides in omega (arith, l, sides)
+
+    few : length k.limits ≤ 8_008_036
+    few = few_limits job k may.kept
+
+    by : SplitsBy job site.extent site.path.now (Nodes.Side c n) (choices_of k)
     by = record {
-      sound = sound;
-      earned = earned;
-      children = (dirs, sides, count, twice_mapped path c dirs);
+      sound = (may.kept.is, may.ordered);
+      earned = record { at = values site; on = is.on; here = may.collides };
+      children = (dirs_of k, may.kept.limits.sides, count ∙ sym sides, twice_mapped site.path.now c k.limits);
       many = many ∙ sym count;
-      some = omega (arith, many, some_sides job c dirs sound.0 sides);
-      few = omega (arith, many, few_sides job c dirs sound.0 sides);
-      spelt = (record { i = fits.0; zi = fits.1; part = fits.2; zj = fits.3; j = fits.4 }, omega (arith, count, some_sides job c dirs sound.0 sides), omega (arith, count, few_sides job c dirs sound.0 sides));
+      some = omega (arith, many, some);
+      few = omega (arith, many, few);
+      spelt = (contact_fits job c may.kept.is, omega (arith, count, some), omega (arith, count, few));
     }
 
 pub order_splits : (job : Job) (e : ℕ) (path : List Choice) (i j : ℕ) (choices : List Choice) → choices ≡ Choices.Before i j ∷ Choices.Before j i ∷ [] → i < 2 ^ 32 → j < 2 ^ 32
@@ -79,7 +123,7 @@ order_splits job e path i j choices are fits_i fits_j sound earned = subst (Spli
 
 pub cycle_closes : (job : Job) (e : ℕ) (path : List Choice) (objects : List ℕ) → IsCycle (OnPath path) objects → length objects ≤ 16 → All (λ k. k < 2 ^ 32) objects
     → ClosesBy job e path (Nodes.Cycle objects)
-cycle_closes job e path objects c few fits = record { is_leaf = tt; sound = c; spelt = (omega (arith, c.0), few, fits) }
+cycle_closes job e path objects c few fits = record { is_leaf = tt; sound = c; spelt = (omega (arith, c.0), few, fits); takes = tt }
 
 -- ---- the neighbours of a cycle
 zip_from : (R : ℕ → ℕ → Type 0) (xs ys : List ℕ) → length ys ≡ length xs → ((m : ℕ) → m < length xs → R (get_or xs m 0) (get_or ys m 0)) → AllZip R xs ys
@@ -105,11 +149,3 @@ pub around_known : (objects : List ℕ) (k : ℕ) → All (λ o. o < 16) objects
 around_known [] k all l = absurd (omega arith)
 around_known (x ∷ xs) k all l =
     All-push (λ o. o < 16) xs x (All-tail (λ o. o < 16) x xs all) (All-head (λ o. o < 16) x xs all) k 0 (omega (arith, l, length-append xs (x ∷ [])))
-
-pub zones_fit : (job : Job) (c : Contact) → IsContact job c → (c.zi < 2 ^ 32) × (c.zj < 2 ^ 32)
-zones_fit job c is =
-    let a = few_of job c.i is.i_in in
-    let b = few_of job c.j is.j_in in
-    let z = is.zi_in in
-    let w = is.zj_in in
-    (omega (arith, a, z), omega (arith, b, w))

@@ -1,123 +1,128 @@
 -- What is seen of one pair more, and of all pairs.
-use Rattle.std.proofs.Common.{◌≡◌, ◌≢◌, ℕ, ◌+◌, ◌*◌, ◌<◌, ◌≤◌, List, [], ◌∷◌, ◌++◌, length, Contains, Option, Some, None, IsSome, sym, subst, arith, inl, inr, ◌⊎◌}
+use Rattle.std.proofs.Common.{◌≡◌, ◌≢◌, ℕ, ◌+◌, ◌<◌, ◌≤◌, List, [], ◌∷◌, ◌++◌, length, Contains, Option, Some, None, IsSome, sym, subst, arith, inl, inr, ◌⊎◌}
 use Rattle.std.proofs.lemmas.Bool.{cases_lt}
 use Rattle.std.proofs.lemmas.List.Elements.{All-nil, All-push, Contains-append_left, Contains-append_right}
 use Rattle.integer_laws.specs.Laws.Members.{In-from_contains}
 use Rattle.model_laws.specs.Laws.Collisions.{collides_by_contact}
 use Rattle.node_looks.specs.Candidates.{IsCandidate, IsForcedOrder, IsSettledWay, IsSettled, IsPairLook, AreSettled, IsSurveyed}
+use Rattle.node_looks.specs.Held.{ComesBefore}
+use Rattle.node_looks.specs.Sites.{values}
+use Rattle.node_looks.specs.declared.site.Site.{Site}
 use Rattle.node_looks.specs.declared.survey.Candidate.{Candidate}
 use Rattle.node_looks.specs.declared.survey.PairLook.TheVariants as PairLooks
 use Rattle.plan_laws.specs.Looking.{AreForced}
-use Rattle.seq_model.specs.Splits.{Values}
+use Rattle.seq_model.specs.Points.{Point}
 use Rattle.seq_model.specs.Systems.{place_of}
-use Rattle.seq_model.specs.declared.job.Job.{Job}
-use Rattle.seq_model.specs.declared.tree.Choice.{Choice}
 
-settled_way : (job : Job) (e : ℕ) (path : List Choice) (at : Values) (forced more : List (ℕ × ℕ)) (a b : ℕ)
-    → ((o : ℕ × ℕ) → Contains forced o → Contains more o) → IsSettledWay job e path at forced a b → IsSettledWay job e path at more a b
-settled_way job e path at forced more a b w s = record { on_path = s.on_path; unordered = λ free hits. w (b, a) (s.unordered free hits) }
+settled_way : (site : Site) (forced more : List (ℕ × ℕ)) (a b : ℕ) → ((o : ℕ × ℕ) → Contains forced o → Contains more o) → IsSettledWay site forced a b → IsSettledWay site more a b
+settled_way site forced more a b w s = record { on_path = s.on_path; unordered = λ free hits. w (b, a) (s.unordered free hits) }
 
-settled_more : (job : Job) (e : ℕ) (path : List Choice) (at : Values) (forced more : List (ℕ × ℕ)) (a b : ℕ)
-    → ((o : ℕ × ℕ) → Contains forced o → Contains more o) → IsSettled job e path at forced a b → IsSettled job e path at more a b
-settled_more job e path at forced more a b w s = record { there = settled_way job e path at forced more a b w s.there; back = settled_way job e path at forced more b a w s.back }
+settled_more : (site : Site) (forced more : List (ℕ × ℕ)) (a b : ℕ) → ((o : ℕ × ℕ) → Contains forced o → Contains more o) → IsSettled site forced a b → IsSettled site more a b
+settled_more site forced more a b w s = record { there = settled_way site forced more a b w s.there; back = settled_way site forced more b a w s.back }
 
 none_in : (xs : List (ℕ × ℕ)) (o : ℕ × ℕ) → Contains [] o → Contains xs o
 none_in xs o c = absurd (In-from_contains [] o c)
 
-one_more : (job : Job) (e : ℕ) (path : List Choice) (at : Values) (i j : ℕ) (forced : List (ℕ × ℕ)) → i < j → j < 16 → AreSettled job e path at (16 * i + j) forced
-    → (more : List (ℕ × ℕ)) → ((o : ℕ × ℕ) → Contains forced o → Contains more o) → IsSettled job e path at more i j → AreSettled job e path at (16 * i + j + 1) more
-one_more job e path at i j forced low high are more w is a b l m below = by (cases_lt (16 * a + b) (16 * i + j))
+one_more : (site : Site) (i j : ℕ) (forced : List (ℕ × ℕ)) → AreSettled site i j forced
+    → (more : List (ℕ × ℕ)) → ((o : ℕ × ℕ) → Contains forced o → Contains more o) → IsSettled site more i j → AreSettled site i (j + 1) more
+one_more site i j forced are more w is a b l m (inl h) = settled_more site forced more a b w (are a b l m (inl h))
+one_more site i j forced are more w is a b l m (inr h) = by (cases_lt b j)
   where
-    by : ((16 * a + b < 16 * i + j) ⊎ (16 * i + j ≤ 16 * a + b)) → IsSettled job e path at more a b
-    by (inl h) = settled_more job e path at forced more a b w (are a b l m h)
-    by (inr h) =
-        let p : a ≡ i = omega arith in
-        let q : b ≡ j = omega arith in
-        subst (λ x. IsSettled job e path at more x b) (sym p) (subst (λ y. IsSettled job e path at more i y) (sym q) is)
+    by : (b < j) ⊎ (j ≤ b) → IsSettled site more a b
+    by (inl k) = settled_more site forced more a b w (are a b l m (inr (h.0, k)))
+    by (inr k) =
+        let n = h.1 in
+        let q : b ≡ j = omega (arith, n, k) in
+        subst (λ x. IsSettled site more x b) (sym h.0) (subst (λ y. IsSettled site more i y) (sym q) is)
 
 -- nothing was found against the pair
-pub survey_settled : (job : Job) (e : ℕ) (path : List Choice) (at : Values) (i j : ℕ) (best : Option Candidate) (forced : List (ℕ × ℕ)) → i < j → j < 16
-    → IsSurveyed job e path at (16 * i + j) best forced → IsPairLook job e path at i j PairLooks.Settled → IsSurveyed job e path at (16 * i + j + 1) best forced
-survey_settled job e path at i j (Some c) forced low high is look = record { each = is.each; found = is.found }
-survey_settled job e path at i j None forced low high is look = record {
+pub survey_settled : (site : Site) (i j : ℕ) (best : Option Candidate) (forced : List (ℕ × ℕ)) → IsSurveyed site i j best forced
+    → IsPairLook site i j PairLooks.Settled → IsSurveyed site i (j + 1) best forced
+survey_settled site i j (Some c) forced is look = record { each = is.each; found = is.found }
+survey_settled site i j None forced is look = record {
   each = is.each;
-  found = one_more job e path at i j forced low high is.found forced (λ o c. c) (settled_more job e path at [] forced i j (none_in forced) look);
+  found = one_more site i j forced is.found forced (λ o c. c) (settled_more site [] forced i j (none_in forced) look);
 }
 
 -- an order was forced
-pub survey_forced : (job : Job) (e : ℕ) (path : List Choice) (at : Values) (i j a b : ℕ) (best : Option Candidate) (forced : List (ℕ × ℕ)) → i < j → j < 16
-    → IsSurveyed job e path at (16 * i + j) best forced → IsPairLook job e path at i j (PairLooks.Forced a b) → IsSurveyed job e path at (16 * i + j + 1) best (forced ++ (a, b) ∷ [])
-survey_forced job e path at i j a b (Some c) forced low high is look = record { each = All-push (IsForcedOrder job e path at) forced (a, b) is.each look.0; found = is.found }
-survey_forced job e path at i j a b None forced low high is look = record {
-  each = All-push (IsForcedOrder job e path at) forced (a, b) is.each look.0;
-  found = one_more job e path at i j forced low high is.found (forced ++ (a, b) ∷ []) (λ o c. Contains-append_left forced ((a, b) ∷ []) o c)
-      (settled_more job e path at ((a, b) ∷ []) (forced ++ (a, b) ∷ []) i j (λ o c. Contains-append_right forced ((a, b) ∷ []) o c) look.1);
+survey_forced : (site : Site) (i j a b : ℕ) (best : Option Candidate) (forced : List (ℕ × ℕ)) → IsSurveyed site i j best forced
+    → IsPairLook site i j (PairLooks.Forced a b) → IsSurveyed site i (j + 1) best (forced ++ (a, b) ∷ [])
+survey_forced site i j a b (Some c) forced is look = record { each = All-push (IsForcedOrder site) forced (a, b) is.each look.0; found = is.found }
+survey_forced site i j a b None forced is look = record {
+  each = All-push (IsForcedOrder site) forced (a, b) is.each look.0;
+  found = one_more site i j forced is.found (forced ++ (a, b) ∷ []) (λ o c. Contains-append_left forced ((a, b) ∷ []) o c)
+      (settled_more site ((a, b) ∷ []) (forced ++ (a, b) ∷ []) i j (λ o c. Contains-append_right forced ((a, b) ∷ []) o c) look.1);
 }
 
-pub survey_forced_as : (job : Job) (e : ℕ) (path : List Choice) (at : Values) (i j a b : ℕ) (old new : Option Candidate) (forced more : List (ℕ × ℕ)) → i < j → j < 16
-    → new ≡ old → more ≡ forced ++ (a, b) ∷ [] → IsSurveyed job e path at (16 * i + j) old forced → IsPairLook job e path at i j (PairLooks.Forced a b) → IsSurveyed job e path at (16 * i + j + 1) new more
-survey_forced_as job e path at i j a b old new forced more low high same pushed is look =
-    subst (λ t. IsSurveyed job e path at (16 * i + j + 1) t more) (sym same) (subst (IsSurveyed job e path at (16 * i + j + 1) old) (sym pushed) (survey_forced job e path at i j a b old forced low high is look))
+pub survey_forced_as : (site : Site) (i j a b : ℕ) (old new : Option Candidate) (forced more : List (ℕ × ℕ)) → new ≡ old → more ≡ forced ++ (a, b) ∷ []
+    → IsSurveyed site i j old forced → IsPairLook site i j (PairLooks.Forced a b) → IsSurveyed site i (j + 1) new more
+survey_forced_as site i j a b old new forced more same pushed is look =
+    subst (λ t. IsSurveyed site i (j + 1) t more) (sym same) (subst (IsSurveyed site i (j + 1) old) (sym pushed) (survey_forced site i j a b old forced is look))
 
 -- a candidate was found
-pub survey_found : (job : Job) (e : ℕ) (path : List Choice) (at : Values) (k n : ℕ) (best : Option Candidate) (c : Candidate) (forced : List (ℕ × ℕ))
-    → IsSurveyed job e path at k best forced → IsCandidate job e path at c → IsSurveyed job e path at n (Some c) forced
-survey_found job e path at k n best c forced is found = record { each = is.each; found = found }
-
-pub survey_kept : (job : Job) (e : ℕ) (path : List Choice) (at : Values) (k n : ℕ) (c : Candidate) (forced : List (ℕ × ℕ))
-    → IsSurveyed job e path at k (Some c) forced → IsSurveyed job e path at n (Some c) forced
-survey_kept job e path at k n c forced is = record { each = is.each; found = is.found }
-
 abbrev nothing : Option Candidate
 nothing = None
 
 never_some : IsSome nothing → ⊥
 never_some h = cc
 
-pub survey_split : (job : Job) (e : ℕ) (path : List Choice) (at : Values) (k n : ℕ) (old new : Option Candidate) (c : Candidate) (forced : List (ℕ × ℕ))
-    → (new ≡ Some c) ⊎ (IsSome old × (new ≡ old)) → IsSurveyed job e path at k old forced → IsCandidate job e path at c → IsSurveyed job e path at n new forced
-survey_split job e path at k n old new c forced (inl same) is found = subst (λ b. IsSurveyed job e path at n b forced) (sym same) (survey_found job e path at k n old c forced is found)
-survey_split job e path at k n None new c forced (inr kept) is found = absurd (never_some kept.0)
-survey_split job e path at k n (Some d) new c forced (inr kept) is found = subst (λ b. IsSurveyed job e path at n b forced) (sym kept.1) (survey_kept job e path at k n d forced is)
+pub survey_split : (site : Site) (i j k l : ℕ) (old new : Option Candidate) (c : Candidate) (forced : List (ℕ × ℕ))
+    → (new ≡ Some c) ⊎ (IsSome old × (new ≡ old)) → IsSurveyed site i j old forced → IsCandidate site c → IsSurveyed site k l new forced
+survey_split site i j k l old new c forced (inl same) is found = subst (λ b. IsSurveyed site k l b forced) (sym same) (record { each = is.each; found = found })
+survey_split site i j k l None new c forced (inr kept) is found = absurd (never_some kept.0)
+survey_split site i j k l (Some d) new c forced (inr kept) is found = subst (λ b. IsSurveyed site k l b forced) (sym kept.1) (record { each = is.each; found = is.found })
 
--- a number that names no pair
-pub survey_past : (job : Job) (e : ℕ) (path : List Choice) (at : Values) (k : ℕ) (best : Option Candidate) (forced : List (ℕ × ℕ))
-    → IsSurveyed job e path at k best forced → ((a b : ℕ) → a < b → b < length job.objects → 16 * a + b ≡ k → ⊥) → IsSurveyed job e path at (k + 1) best forced
-survey_past job e path at k (Some c) forced is none = record { each = is.each; found = is.found }
-survey_past job e path at k None forced is none = record {
-  each = is.each;
-  found = λ a b l m below. by a b l m below (cases_lt (16 * a + b) k);
-}
+-- pairs that there are none of
+pub survey_past : (site : Site) (i j k l : ℕ) (best : Option Candidate) (forced : List (ℕ × ℕ)) → IsSurveyed site i j best forced
+    → ((a b : ℕ) → a < b → b < length site.job.now.objects → ComesBefore a b k l → ComesBefore a b i j) → IsSurveyed site k l best forced
+survey_past site i j k l (Some c) forced is none = record { each = is.each; found = is.found }
+survey_past site i j k l None forced is none = record { each = is.each; found = λ a b l m before. is.found a b l m (none a b l m before) }
+
+pub no_lower : (i a b : ℕ) → a < b → ComesBefore a b i (i + 1) → ComesBefore a b i 0
+no_lower i a b l (inl h) = inl h
+no_lower i a b l (inr h) = let same = h.0 in let less = h.1 in absurd (omega (arith, l, same, less))
+
+pub next_object : (i j n a b : ℕ) → n ≤ j → b < n → ComesBefore a b (i + 1) 0 → ComesBefore a b i j
+next_object i j n a b all m (inl h) = by (cases_lt a i)
   where
-    by : (a b : ℕ) → a < b → b < length job.objects → 16 * a + b < k + 1 → ((16 * a + b < k) ⊎ (k ≤ 16 * a + b)) → IsSettled job e path at forced a b
-    by a b l m below (inl h) = is.found a b l m h
-    by a b l m below (inr h) = absurd (none a b l m (omega arith))
+    by : (a < i) ⊎ (i ≤ a) → ComesBefore a b i j
+    by (inl k) = inl k
+    by (inr k) = inr (omega (arith, h, k), omega (arith, m, all))
+next_object i j n a b all m (inr h) = let less = h.1 in absurd (omega (arith, less))
 
-pub survey_none : (job : Job) (e : ℕ) (path : List Choice) (at : Values) → IsSurveyed job e path at 0 None []
-survey_none job e path at = record { each = All-nil (IsForcedOrder job e path at); found = λ a b l m below. absurd (omega arith) }
+pub survey_none : (site : Site) → IsSurveyed site 0 0 None []
+survey_none site = record { each = All-nil (IsForcedOrder site); found = λ a b l m before. never a b before }
+  where
+    never : (a b : ℕ) → ComesBefore a b 0 0 → IsSettled site [] a b
+    never a b (inl h) = absurd (omega (arith, h))
+    never a b (inr h) = let less = h.1 in absurd (omega (arith, less))
 
-pub survey_candidate : (job : Job) (e : ℕ) (path : List Choice) (at : Values) (k : ℕ) (best : Option Candidate) (c : Candidate) (forced : List (ℕ × ℕ))
-    → IsSurveyed job e path at k best forced → best ≡ Some c → IsCandidate job e path at c
-survey_candidate job e path at k best c forced is same = (subst (λ b. IsSurveyed job e path at k b forced) same is).found
+pub survey_candidate : (site : Site) (i j : ℕ) (best : Option Candidate) (c : Candidate) (forced : List (ℕ × ℕ)) → IsSurveyed site i j best forced
+    → best ≡ Some c → IsCandidate site c
+survey_candidate site i j best c forced is same = (subst (λ b. IsSurveyed site i j b forced) same is).found
 
 -- ---- all pairs
-way_of : (job : Job) (e : ℕ) (path : List Choice) (at : Values) (forced : List (ℕ × ℕ)) → length job.objects ≤ 16 → AreSettled job e path at 256 forced
-    → (i j : ℕ) → i < length job.objects → j < length job.objects → i ≢ j → IsSettledWay job e path at forced i j
-way_of job e path at forced few are i j l m apart = by (cases_lt i j)
+way_of : (site : Site) (forced : List (ℕ × ℕ)) → AreSettled site (length site.job.now.objects) 0 forced
+    → (i j : ℕ) → i < length site.job.now.objects → j < length site.job.now.objects → i ≢ j → IsSettledWay site forced i j
+way_of site forced are i j l m apart = by (cases_lt i j)
   where
-    by : (i < j) ⊎ (j ≤ i) → IsSettledWay job e path at forced i j
-    by (inl h) = (are i j h m (omega arith)).there
-    by (inr h) = (are j i (below h) l (omega arith)).back
+    by : (i < j) ⊎ (j ≤ i) → IsSettledWay site forced i j
+    by (inl h) = (are i j h m (inl l)).there
+    by (inr h) = (are j i (below h) l (inl m)).back
       where
         below : j ≤ i → j < i
         below h = omega arith
 
-pub survey_forces : (job : Job) (e : ℕ) (path : List Choice) (at : Values) (forced : List (ℕ × ℕ)) → length job.objects ≤ 16 → AreSettled job e path at 256 forced → AreForced job e path at forced
-survey_forces job e path at forced few are = record {
+pub survey_forces : (site : Site) (forced : List (ℕ × ℕ)) → AreSettled site (length site.job.now.objects) 0 forced
+    → AreForced site.job.now site.extent site.path.now (values site) forced
+survey_forces site forced are = record {
   on_path = λ i j apart on hits.
-      let c = collides_by_contact job i j (place_of job e at.d at.u i) (place_of job e at.d at.u j) apart hits in
-      let l : i < length job.objects = subst (λ t. t < length job.objects) c.earlier c.collides.is.i_in in
-      let m : j < length job.objects = subst (λ t. t < length job.objects) c.later c.collides.is.j_in in
-      (way_of job e path at forced few are i j l m apart).on_path on hits;
-  unordered = λ i j l m apart free hits. (way_of job e path at forced few are i j l m apart).unordered free hits;
+      let c = collides_by_contact site.job.now i j (at i) (at j) apart hits in
+      let l : i < length site.job.now.objects = subst (λ t. t < length site.job.now.objects) c.earlier c.collides.is.i_in in
+      let m : j < length site.job.now.objects = subst (λ t. t < length site.job.now.objects) c.later c.collides.is.j_in in
+      (way_of site forced are i j l m apart).on_path on hits;
+  unordered = λ i j l m apart free hits. (way_of site forced are i j l m apart).unordered free hits;
 }
+  where
+    at : ℕ → Point
+    at o = place_of site.job.now site.extent (values site).d (values site).u o

@@ -7,8 +7,10 @@ use Rattle.std.proofs.lemmas.List.Elements.{All-contains}
 use Rattle.integer_laws.specs.Members.{In}
 use Rattle.integer_laws.specs.Laws.Members.{In-from_contains, In-append_cases, Contains-from_in}
 use Rattle.node_looks.specs.Candidates.{IsCandidate, IsForcedOrder}
-use Rattle.node_looks.specs.Held.{IsOrderOf, HoldsOrders}
+use Rattle.node_looks.specs.Held.{IsOrderOf}
 use Rattle.node_looks.specs.Looks.{HasZeroPlan, zero_point}
+use Rattle.node_looks.specs.Sites.{Hits, HoldsAll, IsZeroSite}
+use Rattle.node_looks.specs.declared.site.Site.{Site}
 use Rattle.node_looks.specs.declared.survey.Candidate.{Candidate}
 use Rattle.node_looks.specs.declared.survey.Candidate.TheVariants as Candidates
 use Rattle.object_orders.specs.Orders.{Graph, Leads, HasCycle}
@@ -23,7 +25,6 @@ use Rattle.seq_model.specs.Splits.{Values, IsOn, CollidesAt}
 use Rattle.seq_model.specs.declared.job.Job.{Job}
 use Rattle.seq_model.specs.declared.plan.Place.{Place}
 use Rattle.seq_model.specs.declared.plan.Plan.{Plan}
-use Rattle.seq_model.specs.declared.tree.Choice.{Choice}
 
 -- ---- the point of such a plan
 pairs_are_zero : (f g : ℕ → ℤ) (k n : ℕ) → ((o : ℕ) → o < k + n → f o ≡ pos 0) → ((o : ℕ) → o < k + n → g o ≡ pos 0) → in_pairs f g k n ≡ replicate (2 * n) (pos 0)
@@ -106,19 +107,19 @@ rises job e r a b l m apart hits = by (cases_lt (r.rank a) (r.rank b))
 none_on : (i j : ℕ) → OnPath [] i j → ⊥
 none_on i j c = In-from_contains [] _ c
 
-pub zero_candidate : (job : Job) (e : ℕ) (c : Candidate) → HasZeroPlan job e → IsCandidate job e [] (zero_point job) c → ⊥
-zero_candidate job e (Candidates.Side contact) h is = none_on contact.i contact.j is.0
-zero_candidate job e (Candidates.Order i j) h is =
-    let r = zero_ranked job e h in
+pub zero_candidate : (site : Site) (c : Candidate) → IsZeroSite site → IsCandidate site c → ⊥
+zero_candidate site (Candidates.Side kept) z is = none_on kept.now.contact.i kept.now.contact.j (subst (λ p. OnPath p kept.now.contact.i kept.now.contact.j) z.root is.ordered)
+zero_candidate site (Candidates.Order i j) z is =
+    let r = zero_ranked site.job.now site.extent z.plan in
     let low : i < j = is.0 in
-    let high : j < length job.objects = is.1 in
-    let l : i < length job.objects = omega arith in
-    let up = rises job e r j i high l (λ (s : j ≡ i). absurd (omega arith)) is.3 in
-    let down = rises job e r i j l high (λ (s : i ≡ j). absurd (omega arith)) is.4 in
+    let high : j < length site.job.now.objects = is.1 in
+    let l : i < length site.job.now.objects = omega arith in
+    let up = rises site.job.now site.extent r j i high l (λ (s : j ≡ i). absurd (omega arith)) (at_zero i j is.3) in
+    let down = rises site.job.now site.extent r i j l high (λ (s : i ≡ j). absurd (omega arith)) (at_zero j i is.4) in
     omega arith
-
-pub zero_candidate_at : (job : Job) (e : ℕ) (path : List Choice) (at : Values) (c : Candidate) → path ≡ [] → at ≡ zero_point job → HasZeroPlan job e → IsCandidate job e path at c → ⊥
-zero_candidate_at job e path at c none here h is = zero_candidate job e c h (subst (λ p. IsCandidate job e p (zero_point job) c) none (subst (λ v. IsCandidate job e path v c) here is))
+  where
+    at_zero : (a b : ℕ) → Hits site a b → CollidesAt site.job.now site.extent (zero_point site.job.now) a b
+    at_zero a b hits = subst (λ v. CollidesAt site.job.now site.extent v a b) z.zero hits
 
 leads_rise : (orders : List (ℕ × ℕ)) (rank : ℕ → ℕ) → ((a b : ℕ) → Contains orders (a, b) → rank a < rank b) → (a b : ℕ) → Leads orders a b → rank a < rank b
 leads_rise orders rank rise a b (Leads.one x y h) = rise x y h
@@ -127,23 +128,23 @@ leads_rise orders rank rise a b (Leads.more x y z h k) =
     let q = leads_rise orders rank rise y z k in
     omega (arith, p, q)
 
-pub zero_acyclic : (job : Job) (e n k : ℕ) (g : Graph) (forced : List (ℕ × ℕ)) → HasZeroPlan job e → HoldsOrders [] n k g → All (IsForcedOrder job e [] (zero_point job)) forced → HasCycle (g.held ++ forced) → ⊥
-zero_acyclic job e n k g forced h holds each c = below (leads_rise (g.held ++ forced) r.rank (λ a b i. rise a b (In-append_cases g.held forced (a, b) (In-from_contains (g.held ++ forced) (a, b) i))) c.0 c.0 c.1)
+-- so an error of an order of all is none there
+pub zero_acyclic : (site : Site) (g : Graph) (forced : List (ℕ × ℕ)) → IsZeroSite site → HoldsAll site g → All (IsForcedOrder site) forced → HasCycle (g.held ++ forced) → ⊥
+zero_acyclic site g forced z holds each c = below (leads_rise (g.held ++ forced) r.rank (λ a b i. rise a b (In-append_cases g.held forced (a, b) (In-from_contains (g.held ++ forced) (a, b) i))) c.0 c.0 c.1)
   where
-    r : Ranked job e
-    r = zero_ranked job e h
+    n : ℕ
+    n = length site.job.now.objects
+
+    r : Ranked site.job.now site.extent
+    r = zero_ranked site.job.now site.extent z.plan
 
     rise : (a b : ℕ) → In (a, b) g.held ⊎ In (a, b) forced → r.rank a < r.rank b
-    rise a b (inl i) = absurd (none_on a b (All-contains (IsOrderOf [] n) g.held (a, b) holds.only (Contains-from_in g.held (a, b) i)).1)
+    rise a b (inl i) =
+        let o = All-contains (IsOrderOf site.path.now n) g.held (a, b) holds.only (Contains-from_in g.held (a, b) i) in
+        absurd (none_on a b (subst (λ p. OnPath p a b) z.root o.1))
     rise a b (inr i) =
-        let o = All-contains (IsForcedOrder job e [] (zero_point job)) forced (a, b) each (Contains-from_in forced (a, b) i) in
-        rises job e r a b o.0.0 o.0.1 o.0.2 o.1.0
+        let o = All-contains (IsForcedOrder site) forced (a, b) each (Contains-from_in forced (a, b) i) in
+        rises site.job.now site.extent r a b o.0.0 o.0.1 o.0.2 (subst (λ v. CollidesAt site.job.now site.extent v b a) z.zero o.1.0)
 
     below : {m : ℕ} → m < m → ⊥
     below h = absurd (omega (arith, h))
-
--- so an error of an order of all is none there
-pub zero_order : (job : Job) (e n k : ℕ) (path : List Choice) (at : Values) (g : Graph) (forced : List (ℕ × ℕ)) → path ≡ [] → at ≡ zero_point job → HasZeroPlan job e → HoldsOrders path n k g
-    → All (IsForcedOrder job e path at) forced → HasCycle (g.held ++ forced) → ⊥
-zero_order job e n k path at g forced none here h holds each =
-    zero_acyclic job e n k g forced h (subst (λ p. HoldsOrders p n k g) none holds) (subst (λ p. All (IsForcedOrder job e p (zero_point job)) forced) none (subst (λ v. All (IsForcedOrder job e path v) forced) here each))

@@ -1,6 +1,6 @@
 pub mod Candidates
 pub mod Held
 pub mod Looks
-pub mod Points
 pub mod Rows
 pub mod Scaled
+pub mod Sites

@@ -1,6 +1,7 @@
 -- What a look at a node may answer.
 --
 --   IsFound job e plan           the plan is valid at the extent, and a plan file may state it, with the least scale
+--   TakesRows node               each multiplier of a bound is at least 1, though the grammar spells a 0
 --   ClosesBy job e path leaf     the leaf may stand at the path, and the grammar of certificates spells it
 --   SplitsBy job e path node cs  the split may stand at the path and is earned, and its children have these choices, one each
 --   IsVisit n visit              the numbers below n, each once, in the order in which n children are to be looked at
@@ -23,7 +24,9 @@ use Rattle.seq_model.specs.Walks.{WalkWide}
 use Rattle.seq_model.specs.declared.job.Job.{Job}
 use Rattle.seq_model.specs.declared.plan.Plan.{Plan}
 use Rattle.seq_model.specs.declared.tree.Choice.{Choice}
+use Rattle.seq_model.specs.declared.tree.Mult.{Mult}
 use Rattle.seq_model.specs.declared.tree.Node.{Node}
+use Rattle.seq_model.specs.declared.tree.Node.TheVariants as Nodes
 use Rattle.refutation_tree.specs.Grown.{IsLeaf}
 use Rattle.node_looks.specs.declared.looks.Look.{Look}
 use Rattle.node_looks.specs.declared.looks.Look.TheVariants as Looks
@@ -35,10 +38,18 @@ pub record IsFound (job : Job) (e : ℕ) (plan : Plan) : Type 0 where
   pub places : All IsPlace plan.places
   pub reduced : HasNoDivisor plan
 
+abbrev pub TakesRows : Node → Type 0
+TakesRows (Nodes.Order i j) = Unit {0}
+TakesRows (Nodes.Side contact children) = Unit {0}
+TakesRows (Nodes.Bound mults) = All (λ (m : Mult). pos 1 ≤ℤ m.times) mults
+TakesRows (Nodes.Cycle objects) = Unit {0}
+TakesRows Nodes.Pending = Unit {0}
+
 pub record ClosesBy (job : Job) (e : ℕ) (path : List Choice) (leaf : Node) : Type 0 where
   pub is_leaf : IsLeaf leaf
   pub sound : IsSoundNode job e path leaf
   pub spelt : IsSpelt leaf
+  pub takes : TakesRows leaf
 
 pub record SplitsBy (job : Job) (e : ℕ) (path : List Choice) (node : Node) (choices : List Choice) : Type 0 where
   pub sound : IsSoundNode job e path node

@@ -1,13 +1,13 @@
 //! What a search looks at first. Nothing is promised of it but that it names what is there.
 
-ghost use Rattle.std.specs.Prelude.{IfOk};
+ghost use Rattle.std.specs.Prelude.{◌<◌, ◌^◌, length, IfOk};
 ghost use Rattle.std.specs.List.Sorted.{IsPermutation};
 ghost use Rattle.node_looks.specs.Looks.{IsVisit};
 
-use crate::points::SystemPoint;
+use crate::site::Site;
 use crate::splits::in_order;
 use owned_lists::Items;
-use pair_constraints::{Kept, Limit};
+use pair_constraints::{Kept, Limit, SolvedPoint};
 use search_room::{Room, push, row_constant};
 use seq_model::{Choice, Contact, Job, Row, Spot};
 use std::alloc::{AllocError, Global};
@@ -34,8 +34,8 @@ pub(crate) fn room_of(job: &Job, path: &[Choice], rows: &[Row]) -> Room {
 }
 
 fn is_live(room: &Room, kept: &Kept, limit: &Limit) -> bool {
-    let c = row_constant(&limit.dir, limit.most, &kept.shift);
-    room.is_live(kept.contact.i, kept.contact.j, &limit.dir, c)
+    let constant = row_constant(&limit.dir, limit.most, &kept.shift);
+    room.is_live(kept.contact.i, kept.contact.j, &limit.dir, constant)
 }
 
 /// How many sides of a contact can still be kept beyond.
@@ -49,16 +49,15 @@ pub(crate) fn live_sides(room: &Room, kept: &Kept) -> u64 {
     live
 }
 
-fn number(at: &SystemPoint, variable: usize) -> i64 {
-    let nums = at.nums.as_slice();
-    if variable < nums.len() {
-        return nums[variable];
+fn number(at: &SolvedPoint, variable: usize) -> i64 {
+    if variable < at.nums.len() {
+        return at.nums[variable];
     }
     0
 }
 
 // Where the later object's variables stand as seen from the earlier one's, times the denominator.
-fn gap(at: &SystemPoint, contact: &Contact) -> Spot {
+fn gap(at: &SolvedPoint, contact: &Contact) -> Spot {
     if contact.i >= 16 || contact.j >= 16 {
         return Spot { x: 0, y: 0 };
     }
@@ -70,19 +69,19 @@ fn gap(at: &SystemPoint, contact: &Contact) -> Spot {
 }
 
 // How far the point has to be pushed beyond a side; a dead one comes last.
-fn push_beyond(room: &Room, kept: &Kept, limit: &Limit, at: &SystemPoint) -> i128 {
+fn push_beyond(room: &Room, kept: &Kept, limit: &Limit, at: &SolvedPoint) -> i128 {
     if !is_live(room, kept, limit) {
         return i128::MAX;
     }
-    let c = row_constant(&limit.dir, limit.most, &kept.shift);
-    push(&limit.dir, c, &gap(at, &kept.contact), at.den)
+    let constant = row_constant(&limit.dir, limit.most, &kept.shift);
+    push(&limit.dir, constant, &gap(at, &kept.contact), at.den)
 }
 
 fn pushes(
     alloc: Global,
     room: &Room,
     kept: &Kept,
-    at: &SystemPoint,
+    at: &SolvedPoint,
 ) -> Result<Vec<i128>, AllocError> {
     let limits = kept.limits.as_slice();
     let mut keys = Vec::with_capacity(alloc, limits.len())?;
@@ -114,30 +113,11 @@ fn sorted(alloc: Global, n: u32, keys: &[i128]) -> Result<Items<u32>, AllocError
     Ok(Items::from_vec(visit))
 }
 
-fn place_of(pair: &[Kept], contact: &Contact) -> usize {
-    for k in 0..pair.len() {
-        if pair[k].contact == *contact {
-            return k;
-        }
-    }
-    pair.len()
-}
-
 /// In which order the children of a contact's split are to be looked at: by the least push.
-pub(crate) fn visit_of(
-    alloc: Global,
-    room: &Room,
-    pair: &[Kept],
-    at: &SystemPoint,
-    contact: &Contact,
-    n: u32,
-) -> Result<Items<u32>, AllocError>
-    ensures { IfOk result (IsVisit n) }
+pub(crate) fn visit_of(alloc: Global, site: &Site, kept: &Kept) -> Result<Items<u32>, AllocError>
+    requires { length kept.now.limits < 2 ^ 32 }
+    ensures { IfOk result (IsVisit (length kept.now.limits)) }
 {
-    let k = place_of(pair, contact);
-    if k >= pair.len() {
-        return in_order(alloc, n);
-    }
-    let keys = pushes(alloc, room, &pair[k], at)?;
-    sorted(alloc, n, &keys)
+    let keys = pushes(alloc, site.room, kept, &site.at)?;
+    sorted(alloc, kept.limits.len() as u32, &keys)
 }

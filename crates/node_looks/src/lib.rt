@@ -11,7 +11,7 @@ mod looking;
 mod looks;
 mod orders;
 mod plans;
-mod points;
+mod site;
 mod splits;
 mod survey;
 mod system;

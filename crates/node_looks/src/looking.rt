@@ -1,22 +1,19 @@
 //! A look that solves the system of each node anew.
 
-ghost use Rattle.std.specs.Prelude.{◌≡◌, ◌*◌, ◌<◌, ◌≤◌, ◌^◌, [], length, IfOk};
-ghost use Rattle.feasible_point.specs.Answering.{Solves, IsZeroPoint};
+ghost use Rattle.std.specs.Prelude.{◌≡◌, ◌*◌, ◌≤◌, ◌<◌, ◌^◌, [], length, pos, ◌≤ℤ◌, ◌<ℤ◌, IfOk};
+ghost use Rattle.feasible_point.specs.Answering.{HasSmallDen, Solves, IsZeroPoint};
 ghost use Rattle.feasible_point.specs.Shortening.{IsShortest};
 ghost use Rattle.node_looks.specs.Candidates.{IsCandidate};
-ghost use Rattle.node_looks.specs.Held.{HoldsOrders, IsTable};
-ghost use Rattle.node_looks.specs.Looks.{ClosesBy, HasZeroPlan, IsLook, IsZeroLook, zero_point};
-ghost use Rattle.node_looks.specs.Points.{IsPointOf, values};
+ghost use Rattle.node_looks.specs.Looks.{HasZeroPlan, IsLook, IsZeroLook};
+ghost use Rattle.node_looks.specs.Sites.{HoldsAll, IsLookAt, IsSite, IsZeroLookAt, IsZeroSite};
 ghost use Rattle.pair_constraints.specs.Maximal.{AreContacts};
-ghost use Rattle.seq_model.specs.Splits.{IsOn};
 ghost use Rattle.seq_model.specs.Systems.{system};
 ghost use Rattle.seq_model.specs.Trees.{IsPath};
-ghost use Rattle.seq_model.specs.declared.tree.Node.TheVariants as Nodes;
 
 use crate::advice::room_of;
 use crate::completing::complete;
 use crate::orders::{graph_of, table_of};
-use crate::points::SystemPoint;
+use crate::site::Site;
 use crate::splits::{close_cycle, open_contact, order_split};
 use crate::survey::{Candidate, look_at_pairs};
 use crate::system::system_rows;
@@ -24,100 +21,45 @@ use crate::{Look, Looks};
 use feasible_point::{Solved, solve};
 use order_graph::OrderGraph;
 use owned_lists::Items;
-use pair_constraints::Contacts;
-use search_room::Room;
+use pair_constraints::{Contacts, SolvedPoint};
 use seq_model::{Choice, Job, Node, Row};
 use seq_num::NoMemory;
-use std::alloc::Global;
-
-/// No path that memory holds is as long.
-const LONGEST: usize = 1 << 31;
-
-/// The walk of a system ends before a denominator as great.
-const WIDEST: i64 = 1 << 62;
+use std::alloc::{AllocError, Global};
 
 // The split of a candidate.
-fn split(
-    alloc: Global,
-    job: &Job,
-    extent: u32,
-    path: &[Choice],
-    contacts: &Contacts,
-    room: &Room,
-    at: &SystemPoint,
-    candidate: &Candidate,
-) -> Result<Look, NoMemory>
-    requires contacts { AreContacts job.now contacts.now }
-    requires on { IsOn job.now extent path.now (values at.now) }
-    requires candidate { IsCandidate job.now extent path.now (values at.now) candidate.now }
-    ensures { IfOk result (IsLook job.now extent path.now) }
+fn split(alloc: Global, site: &Site, candidate: &Candidate) -> Result<Look, AllocError>
+    requires site { IsSite site.now }
+    requires candidate { IsCandidate site.now candidate.now }
+    ensures { IfOk result (IsLookAt site.now) }
 {
     match candidate {
-        Candidate::Side(contact) => open_contact(
-            alloc, job, extent, path, contacts, room, at, contact,
-        ),
-        Candidate::Order { i, j } => Ok(order_split(alloc, job, extent, path, *i, *j)?),
+        Candidate::Side(kept) => open_contact(alloc, site, kept),
+        Candidate::Order { i, j } => order_split(alloc, site, *i, *j),
     }
 }
 
-// The look at a point of a path whose orders have no cycle.
-fn look_in_order(
-    alloc: Global,
-    job: &Job,
-    extent: u32,
-    path: &[Choice],
-    table: &[bool; 256],
-    graph: &OrderGraph,
-    contacts: &Contacts,
-    room: &Room,
-    at: &SystemPoint,
-) -> Result<Look, NoMemory>
-    requires low { 1 ≤ extent }
-    requires high { extent ≤ job.now.printer.grid }
-    requires table { IsTable path.now table.now }
-    requires held { HoldsOrders path.now (length job.now.objects) 256 graph.now }
-    requires contacts { AreContacts job.now contacts.now }
-    requires point { IsPointOf job.now at.now }
-    requires on { IsOn job.now extent path.now (values at.now) }
-    ensures look { IfOk result (IsLook job.now extent path.now) }
-    ensures zero { path.now ≡ [] → values at.now ≡ zero_point job.now → HasZeroPlan job.now extent
-        → IfOk result (IsZeroLook job.now extent) }
+// The look at a site whose path has no cycle of orders.
+fn look_in_order(alloc: Global, site: &Site, graph: &OrderGraph) -> Result<Look, AllocError>
+    requires site { IsSite site.now }
+    requires held { HoldsAll site.now graph.now }
+    ensures look { IfOk result (IsLookAt site.now) }
+    ensures zero { IsZeroSite site.now → IfOk result (IsZeroLookAt site.now) }
 {
-    let survey = look_at_pairs(alloc, job, extent, path, table, contacts, room, at)?;
+    let survey = look_at_pairs(alloc, site)?;
     match &survey.best {
-        Some(candidate) => split(alloc, job, extent, path, contacts, room, at, candidate),
-        None => Ok(complete(alloc, job, extent, path, table, graph, &survey.forced, at)?),
+        Some(candidate) => split(alloc, site, candidate),
+        None => complete(alloc, site, graph, &survey.forced),
     }
 }
 
-fn look_at_point(
-    alloc: Global,
-    job: &Job,
-    extent: u32,
-    path: &[Choice],
-    contacts: &Contacts,
-    room: &Room,
-    at: &SystemPoint,
-) -> Result<Look, NoMemory>
-    requires low { 1 ≤ extent }
-    requires high { extent ≤ job.now.printer.grid }
-    requires contacts { AreContacts job.now contacts.now }
-    requires point { IsPointOf job.now at.now }
-    requires on { IsOn job.now extent path.now (values at.now) }
-    ensures look { IfOk result (IsLook job.now extent path.now) }
-    ensures zero { path.now ≡ [] → values at.now ≡ zero_point job.now → HasZeroPlan job.now extent
-        → IfOk result (IsZeroLook job.now extent) }
+fn look_at_site(alloc: Global, site: &Site) -> Result<Look, AllocError>
+    requires { IsSite site.now }
+    ensures look { IfOk result (IsLookAt site.now) }
+    ensures zero { IsZeroSite site.now → IfOk result (IsZeroLookAt site.now) }
 {
-    let table = table_of(path);
-    match graph_of(job.objects.len() as u32, path, &table) {
-        Ok(graph) => look_in_order(alloc, job, extent, path, &table, &graph, contacts, room, at),
-        Err(cycle) => Ok(close_cycle(
-            alloc,
-            job,
-            extent,
-            path,
-            &cycle.objects[..cycle.len as usize],
-        )?),
+    match graph_of(site) {
+        Ok(graph) => look_in_order(alloc, site, &graph),
+        Err(cycle) => close_cycle(alloc, site, &cycle.objects[..cycle.len as usize]),
     }
 }
 
@@ -132,41 +74,46 @@ fn solve_path(
     requires rows { rows.now ≡ system job.now extent path.now }
     requires high { extent ≤ job.now.printer.grid }
     requires path { IsPath job.now path.now }
-    requires short { length path.now < 2 ^ 31 }
+    requires short { length path.now ≤ 1_000_000 }
     ensures is { IfOk result (Solves (2 * length job.now.objects) (system job.now extent path.now)) }
     ensures shortest { IfOk result IsShortest }
+    ensures den { IfOk result HasSmallDen }
     ensures zero { path.now ≡ [] → HasZeroPlan job.now extent → IfOk result (IsZeroPoint (2 * length job.now.objects)) }
 {
     solve(alloc, 2 * job.objects.len() as u32, rows)
 }
 
-fn look_by(
+fn look_by<'a>(
     alloc: Global,
-    contacts: &Contacts,
-    job: &Job,
+    contacts: &'a Contacts,
+    job: &'a Job,
     extent: u32,
-    path: &[Choice],
+    path: &'a [Choice],
 ) -> Result<Look, NoMemory>
     requires contacts { AreContacts job.now contacts.now }
     requires low { 1 ≤ extent }
     requires high { extent ≤ job.now.printer.grid }
     requires path { IsPath job.now path.now }
-    requires short { length path.now < 2 ^ 31 }
+    requires short { length path.now ≤ 1_000_000 }
     ensures look { IfOk result (IsLook job.now extent path.now) }
     ensures zero { path.now ≡ [] → HasZeroPlan job.now extent → IfOk result (IsZeroLook job.now extent) }
 {
     let rows = system_rows(alloc, job, extent, path)?;
     match solve_path(alloc, job, extent, path, &rows)? {
         Solved::Point { den, nums } => {
-            if den >= WIDEST {
-                return Err(NoMemory);
-            }
+            let table = table_of(path);
             let room = room_of(job, path, &rows);
-            let at = SystemPoint {
-                den,
-                nums: Items::from_vec(nums),
+            let at = SolvedPoint::new(den, &nums);
+            let site = Site {
+                job,
+                extent,
+                path,
+                table: &table,
+                contacts,
+                room: &room,
+                at,
             };
-            look_at_point(alloc, job, extent, path, contacts, &room, &at)
+            Ok(look_at_site(alloc, &site)?)
         }
         Solved::Contradiction(mults) => Ok(Look::Close(Node::Bound {
             mults: Items::from_vec(mults),
@@ -191,9 +138,6 @@ impl Looks for Looker {
     ghost IsFor = { λ looker job. AreContacts job looker.contacts };
 
     fn look(&mut self, job: &Job, extent: u32, path: &[Choice]) -> Result<Look, NoMemory> {
-        if path.len() >= LONGEST {
-            return Err(NoMemory);
-        }
         look_by(self.alloc, &self.contacts, job, extent, path)
     }
 }

@@ -1,4 +1,4 @@
-ghost use Rattle.std.specs.Prelude.{◌≡◌, ◌≤◌, [], IfOk};
+ghost use Rattle.std.specs.Prelude.{◌≡◌, ◌≤◌, [], length, IfOk};
 ghost use Rattle.node_looks.specs.Looks.{HasZeroPlan, IsLook, IsZeroLook};
 ghost use Rattle.seq_model.specs.Trees.{IsPath};
 ghost use Rattle.seq_model.specs.declared.job.Job.{Job};
@@ -38,6 +38,7 @@ pub trait Looks {
         requires low { 1 ≤ extent }
         requires high { extent ≤ job.now.printer.grid }
         requires path { IsPath job.now path.now }
+        requires short { length path.now ≤ 1_000_000 }
         ensures stays { IsFor self.new job.now }
         ensures look { IfOk result (IsLook job.now extent path.now) }
         ensures zero { path.now ≡ [] → HasZeroPlan job.now extent → IfOk result (IsZeroLook job.now extent) };

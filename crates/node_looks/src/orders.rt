@@ -1,13 +1,14 @@
 //! The orders of a path: which there are, and a graph that holds them.
 
-ghost use Rattle.std.specs.Prelude.{◌≡◌, ◌≢◌, ◌+◌, ◌*◌, ◌<◌, ◌≤◌, ◌∷◌, ◌++◌, [], List, length, IfOk, IfErr, OnOk};
-ghost use Rattle.node_looks.specs.Held.{HoldsOrders, IsTable};
-ghost use Rattle.plan_laws.specs.Laws.OnPath.{is_before};
+ghost use Rattle.std.specs.Prelude.{◌≡◌, ◌+◌, ◌<◌, ◌∷◌, ◌++◌, [], List, length, IfOk, IfErr, OnOk};
+ghost use Rattle.node_looks.specs.Held.{IsTable};
+ghost use Rattle.node_looks.specs.Sites.{HoldsAll, HoldsUpTo, IsSite};
 ghost use Rattle.plan_laws.specs.Looking.{OnPath};
 ghost use Rattle.seq_model.specs.Trees.{IsCycle};
 ghost use Rattle.seq_model.specs.declared.tree.Choice.{Choice};
 ghost use Rattle.seq_model.specs.declared.tree.Choice.TheVariants as Choices;
 
+use crate::site::Site;
 use order_graph::{Cycle, OrderGraph};
 use seq_model::Choice;
 
@@ -46,53 +47,47 @@ pub(crate) fn table_of(path: &[Choice]) -> [bool; 256]
     table
 }
 
-/// Whether i is before j on the path.
-pub(crate) fn is_on(path: &[Choice], table: &[bool; 256], i: u32, j: u32) -> bool
-    requires table { IsTable path.now table.now }
-    requires i { i < 16 }
-    requires j { j < 16 }
-    ensures { result ≡ is_before path.now i j }
+// Holds that i is before j, if it is on the path.
+fn hold(graph: &mut OrderGraph, site: &Site, i: u32, j: u32) -> Result<(), Cycle>
+    requires site { IsSite site.now }
+    requires i { i < length site.now.job.now.objects }
+    requires j { j < length site.now.job.now.objects }
+    requires held { HoldsUpTo site.now i j graph.old }
+    ensures held { OnOk result (HoldsUpTo site.now i (j + 1) graph.new) }
+    ensures cycle { IfErr result (IsCycle (OnPath site.now.path.now)) }
 {
-    table[(16 * i + j) as usize]
-}
-
-// Holds order number k, if it is on the path.
-fn hold(
-    graph: &mut OrderGraph,
-    n: u32,
-    path: &[Choice],
-    table: &[bool; 256],
-    k: u32,
-) -> Result<(), Cycle>
-    requires n { n ≤ 16 }
-    requires k { k < 256 }
-    requires table { IsTable path.now table.now }
-    requires held { HoldsOrders path.now n k graph.old }
-    ensures held { OnOk result (HoldsOrders path.now n (k + 1) graph.new) }
-    ensures cycle { IfErr result (IsCycle (OnPath path.now)) }
-{
-    let i = k / 16;
-    let j = k % 16;
-    if i >= n || j >= n || i == j {
+    if i == j {
         return Ok(());
     }
-    if is_on(path, table, i, j) {
+    if site.is_before(i, j) {
         return graph.add(i, j);
     }
     Ok(())
 }
 
-/// A graph of the path's orders, or a cycle of them.
-pub(crate) fn graph_of(n: u32, path: &[Choice], table: &[bool; 256]) -> Result<OrderGraph, Cycle>
-    requires some { 1 ≤ n }
-    requires few { n ≤ 16 }
-    requires table { IsTable path.now table.now }
-    ensures held { IfOk result (HoldsOrders path.now n 256) }
-    ensures cycle { IfErr result (IsCycle (OnPath path.now)) }
+// Holds what i is before.
+fn hold_all(graph: &mut OrderGraph, site: &Site, i: u32) -> Result<(), Cycle>
+    requires site { IsSite site.now }
+    requires i { i < length site.now.job.now.objects }
+    requires held { HoldsUpTo site.now i 0 graph.old }
+    ensures held { OnOk result (HoldsUpTo site.now (i + 1) 0 graph.new) }
+    ensures cycle { IfErr result (IsCycle (OnPath site.now.path.now)) }
 {
-    let mut graph = OrderGraph::new(n);
-    for k in 0..256 {
-        hold(&mut graph, n, path, table, k)?;
+    for j in 0..site.object_count() {
+        hold(graph, site, i, j)?;
+    }
+    Ok(())
+}
+
+/// A graph of the path's orders, or a cycle of them.
+pub(crate) fn graph_of(site: &Site) -> Result<OrderGraph, Cycle>
+    requires { IsSite site.now }
+    ensures held { IfOk result (HoldsAll site.now) }
+    ensures cycle { IfErr result (IsCycle (OnPath site.now.path.now)) }
+{
+    let mut graph = OrderGraph::new(site.object_count());
+    for i in 0..site.object_count() {
+        hold_all(&mut graph, site, i)?;
     }
     Ok(graph)
 }

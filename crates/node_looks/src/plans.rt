@@ -2,18 +2,17 @@
 
 ghost use Rattle.std.specs.Prelude.{◌≡◌, ◌+◌, ◌*◌, ◌<◌, ◌≤◌, ◌^◌, All, length, map, pos, ◌+ℤ◌, ◌-ℤ◌, ◌*ℤ◌, ◌≤ℤ◌, ◌<ℤ◌, unsigned_abs, slice_index_or, int_div, IfOk};
 ghost use Rattle.node_looks.specs.Looks.{IsFound};
-ghost use Rattle.node_looks.specs.Points.{IsPointOf, values};
 ghost use Rattle.node_looks.specs.Scaled.{IsCommon, IsReduced, IsShared, place_over};
-ghost use Rattle.plan_laws.specs.Inside.{place_at};
-ghost use Rattle.plan_laws.specs.Ordered.{plan_of};
+ghost use Rattle.node_looks.specs.Sites.{IsSite, place_of_site, plan_of_site};
 ghost use Rattle.plan_text.specs.PlanText.{IsPlace};
 ghost use Rattle.seq_model.specs.Bounds.{IsNearSpot};
 ghost use Rattle.seq_model.specs.Jobs.{scene_of_job};
 ghost use Rattle.seq_model.specs.Scenes.{Valid};
 
-use crate::points::SystemPoint;
+use crate::site::Site;
 use integer_laws::{sum, wide_product};
 use owned_lists::Items;
+use pair_constraints::SolvedPoint;
 use seq_model::{Job, Place, Plan, Spot, region};
 use seq_num::gcd;
 use std::alloc::{AllocError, Global};
@@ -47,63 +46,53 @@ fn coordinate(u: i64, den: i64, corner: i64, low: i64) -> i128
     sum(i128::from(u), times(den, apart(corner, low)))
 }
 
-fn coordinate_x(at: &SystemPoint, object: usize, corner: &Spot, low: &Spot) -> i128
-    requires known { 2 * object < length at.now.nums }
+fn coordinate_x(at: &SolvedPoint, object: usize, corner: &Spot, low: &Spot) -> i128
+    requires known { 2 * object < length at.now.nums.now }
     requires den { unsigned_abs at.now.den < 2 ^ 62 }
     requires corner { IsNearSpot 40_000 corner.now }
     requires low { IsNearSpot 1_001_000 low.now }
-    ensures value { result ≡ slice_index_or at.now.nums (2 * object) (pos 0) +ℤ at.now.den *ℤ (corner.now.x -ℤ low.now.x) }
+    ensures value { result ≡ slice_index_or at.now.nums.now (2 * object) (pos 0) +ℤ at.now.den *ℤ (corner.now.x -ℤ low.now.x) }
     ensures size { unsigned_abs result < 2 ^ 90 }
 {
-    coordinate(at.nums.as_slice()[2 * object], at.den, corner.x, low.x)
+    coordinate(at.nums[2 * object], at.den, corner.x, low.x)
 }
 
-fn coordinate_y(at: &SystemPoint, object: usize, corner: &Spot, low: &Spot) -> i128
-    requires known { 2 * object + 1 < length at.now.nums }
+fn coordinate_y(at: &SolvedPoint, object: usize, corner: &Spot, low: &Spot) -> i128
+    requires known { 2 * object + 1 < length at.now.nums.now }
     requires den { unsigned_abs at.now.den < 2 ^ 62 }
     requires corner { IsNearSpot 40_000 corner.now }
     requires low { IsNearSpot 1_001_000 low.now }
-    ensures value { result ≡ slice_index_or at.now.nums (2 * object + 1) (pos 0) +ℤ at.now.den *ℤ (corner.now.y -ℤ low.now.y) }
+    ensures value { result ≡ slice_index_or at.now.nums.now (2 * object + 1) (pos 0) +ℤ at.now.den *ℤ (corner.now.y -ℤ low.now.y) }
     ensures size { unsigned_abs result < 2 ^ 90 }
 {
-    coordinate(at.nums.as_slice()[2 * object + 1], at.den, corner.y, low.y)
+    coordinate(at.nums[2 * object + 1], at.den, corner.y, low.y)
 }
 
 /// Where an object stands at the point.
-pub(crate) fn place(job: &Job, extent: u32, at: &SystemPoint, object: u32) -> Place
-    requires from_one { 1 ≤ extent }
-    requires to_grid { extent ≤ job.now.printer.grid }
-    requires known { object < length job.now.objects }
-    requires point { IsPointOf job.now at.now }
-    ensures value { result ≡ place_at job.now extent at.now.den at.now.nums object }
+pub(crate) fn place(site: &Site, object: u32) -> Place
+    requires site { IsSite site.now }
+    requires known { object < length site.now.job.now.objects }
+    ensures value { result ≡ place_of_site site.now object }
     ensures is { IsPlace result }
 {
-    let region = region(&job.printer, extent);
-    let low = &job.objects.as_slice()[object as usize].low;
+    let region = region(&site.job.printer, site.extent);
+    let low = &site.job.objects.as_slice()[object as usize].low;
     Place {
         object,
-        x: coordinate_x(at, object as usize, &region.low, low),
-        y: coordinate_y(at, object as usize, &region.low, low),
+        x: coordinate_x(&site.at, object as usize, &region.low, low),
+        y: coordinate_y(&site.at, object as usize, &region.low, low),
     }
 }
 
-fn places(
-    alloc: Global,
-    job: &Job,
-    extent: u32,
-    at: &SystemPoint,
-    order: &[u32],
-) -> Result<Vec<Place>, AllocError>
-    requires from_one { 1 ≤ extent }
-    requires to_grid { extent ≤ job.now.printer.grid }
-    requires known { All (λ o. o < length job.now.objects) order.now }
-    requires point { IsPointOf job.now at.now }
-    ensures value { IfOk result (λ v. v.items ≡ map (place_at job.now extent at.now.den at.now.nums) order.now) }
+fn places(alloc: Global, site: &Site, order: &[u32]) -> Result<Vec<Place>, AllocError>
+    requires site { IsSite site.now }
+    requires known { All (λ o. o < length site.now.job.now.objects) order.now }
+    ensures value { IfOk result (λ v. v.items ≡ map (place_of_site site.now) order.now) }
     ensures each { IfOk result (λ v. All IsPlace v.items) }
 {
     let mut made = Vec::new(alloc);
     for o in order {
-        made.push(place(job, extent, at, *o))?;
+        made.push(place(site, *o))?;
     }
     Ok(made)
 }
@@ -119,7 +108,7 @@ fn shared_divisor(divisor: i128, place: &Place) -> i128
     gcd(gcd(divisor, place.x), place.y)
 }
 
-fn common_divisor(at: &SystemPoint, places: &[Place]) -> i128
+fn common_divisor(at: &SolvedPoint, places: &[Place]) -> i128
     requires positive { pos 1 ≤ℤ at.now.den }
     requires places { All IsPlace places.now }
     ensures common { IsCommon result at.now.den places.now }
@@ -141,7 +130,7 @@ fn quotient(x: i128, divisor: i128) -> i128
     x / divisor
 }
 
-fn scale_over(at: &SystemPoint, divisor: &i128) -> i128
+fn scale_over(at: &SolvedPoint, divisor: &i128) -> i128
     requires positive { pos 1 ≤ℤ divisor.now }
     ensures value { result ≡ int_div at.now.den divisor.now }
 {
@@ -174,7 +163,7 @@ fn all_divided(alloc: Global, places: &[Place], divisor: &i128) -> Result<Items<
     Ok(Items::from_vec(made))
 }
 
-fn reduced(alloc: Global, at: &SystemPoint, places: &[Place]) -> Result<Plan, AllocError>
+fn reduced(alloc: Global, at: &SolvedPoint, places: &[Place]) -> Result<Plan, AllocError>
     requires positive { pos 1 ≤ℤ at.now.den }
     requires places { All IsPlace places.now }
     ensures over { IfOk result (IsReduced at.now.den places.now) }
@@ -188,22 +177,14 @@ fn reduced(alloc: Global, at: &SystemPoint, places: &[Place]) -> Result<Plan, Al
 }
 
 /// The plan at the point in an order of the objects, over the least scale.
-pub(crate) fn plan_at(
-    alloc: Global,
-    job: &Job,
-    extent: u32,
-    at: &SystemPoint,
-    order: &[u32],
-) -> Result<Plan, AllocError>
-    requires from_one { 1 ≤ extent }
-    requires to_grid { extent ≤ job.now.printer.grid }
-    requires known { All (λ o. o < length job.now.objects) order.now }
-    requires point { IsPointOf job.now at.now }
-    requires valid { Valid (scene_of_job job.now) extent (plan_of job.now extent (values at.now) order.now) }
-    ensures found { IfOk result (IsFound job.now extent) }
-    ensures unscaled { at.now.den ≡ pos 1 → IfOk result (λ plan. plan ≡ plan_of job.now extent (values at.now) order.now) }
+pub(crate) fn plan_at(alloc: Global, site: &Site, order: &[u32]) -> Result<Plan, AllocError>
+    requires site { IsSite site.now }
+    requires known { All (λ o. o < length site.now.job.now.objects) order.now }
+    requires valid { Valid (scene_of_job site.now.job.now) site.now.extent (plan_of_site site.now order.now) }
+    ensures found { IfOk result (IsFound site.now.job.now site.now.extent) }
+    ensures unscaled { site.now.at.den ≡ pos 1 → IfOk result (λ plan. plan ≡ plan_of_site site.now order.now) }
 {
-    let places = places(alloc, job, extent, at, order)?;
-    let plan = reduced(alloc, at, &places)?;
+    let places = places(alloc, site, order)?;
+    let plan = reduced(alloc, &site.at, &places)?;
     Ok(plan)
 }

@@ -14,7 +14,8 @@ ghost use Rattle.search_laws.specs.Covering.{Covers};
 pub fn covered_contacts_need_no_opening()
     ensures inner { (covered covering : List Spot) (q : Point) → HasArea covered → HasArea covering
         → Covers covering covered → Inner covered q → Inner covering q }
-    ensures beyond { (covered covering : List Spot) (q : Point) (dir : Dir) → HasArea covered → Covers covering covered → Side covering dir
+    ensures beyond { (covered covering : List Spot) (q : Point) (dir : Dir) → HasArea covered
+        → Covers covering covered → Side covering dir
         → Beyond covering dir q → Inner covered q → ⊥ }
 {}
 

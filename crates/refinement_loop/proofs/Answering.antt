@@ -4,7 +4,7 @@ use Rattle.std.specs.Prelude.{IsSome, slice_get}
 use Rattle.cert_text.specs.TreeText.{IsSpelt}
 use Rattle.model_laws.specs.Laws.Grounds.{earned_is_grounded}
 use Rattle.model_laws.specs.Laws.OnePath.{stands_at_path}
-use Rattle.node_looks.specs.Looks.{SplitsBy}
+use Rattle.node_looks.specs.Looks.{SplitsBy, TakesRows}
 use Rattle.refinement_loop.proofs.Printing.{all_nodes, note_is_spelt, reads_fill}
 use Rattle.refinement_loop.proofs.Searching.{Good, IsHeld, IsStill, Searching}
 use Rattle.refinement_loop.specs.Decisions.{HasNoWideWalk, HasWideWalk, IsDecision, IsPrintable, IsRefutation, IsSettled, IsSpent, IsSpentDecision, IsWideEnd}
@@ -60,6 +60,7 @@ printable job e budget made open_nodes wide tree s whole limit = record {
   spelt = subst (All IsSpelt) (sym whole.nodes_are) (all_nodes IsSpelt made whole.order (λ k h. let g = s.good.each k h in g.good.2) whole.is.known);
   whole = reads_fill job 1_000_000 tree.nodes ([] ∷ []) []
       (tree_with job (Good job e) (λ path node. length path ≤ 1_000_000) made s.paths tree s.good (λ k h. let f = s.fine k h in omega (arith, f.short, limit)) whole);
+  takes = subst (All TakesRows) (sym whole.nodes_are) (all_nodes TakesRows made whole.order (λ k h. let g = s.good.each k h in g.good.3) whole.is.known);
 }
 
 -- ---- nothing is left

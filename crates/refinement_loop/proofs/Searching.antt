@@ -1,6 +1,6 @@
 -- What a search keeps true.
 --
---   Good job e            what is asked of each node that was made: it is sound, earned, and one that a text may hold
+--   Good job e            what is asked of each node that was made: it is sound, earned, one that a text may hold, and takes rows
 --   IsOpen made paths o   an open node is pending, and stands at its path
 --   IsPathOf job budget k path   the path of node k is one of the job, and no longer than k, nor than the budget
 --   IsHeld .. wide        the wide node that is held is pending, and not open any more
@@ -14,7 +14,7 @@ use Rattle.std.proofs.lemmas.List.Elements.{All-head, All-tail, All-get_or}
 use Rattle.cert_text.specs.TreeText.{IsSpelt}
 use Rattle.integer_laws.specs.Members.{In}
 use Rattle.model_laws.specs.Laws.Reading.{no_choice, children_are_paths}
-use Rattle.node_looks.specs.Looks.{ClosesBy, SplitsBy, IsWideAt}
+use Rattle.node_looks.specs.Looks.{ClosesBy, SplitsBy, IsWideAt, TakesRows}
 use Rattle.refinement_loop.proofs.Visits.{AreApart, AreVisits}
 use Rattle.refinement_loop.specs.Decisions.{HasWideWalk}
 use Rattle.refinement_loop.specs.WideNodes.{first_wide}
@@ -33,7 +33,7 @@ use Rattle.seq_model.specs.declared.tree.Node.{Node}
 use Rattle.seq_model.specs.declared.tree.Node.TheVariants as Nodes
 
 abbrev pub Good : Job → ℕ → List Choice → Node → Type 0
-Good job e path node = IsSoundNode job e path node × Earned job e path node × IsSpelt node
+Good job e path node = IsSoundNode job e path node × Earned job e path node × IsSpelt node × TakesRows node
 
 pub record IsOpen (made : List Made) (paths : List (List Choice)) (o : OpenNode) : Type 0 where
   pub known : o.number < length made
@@ -80,7 +80,7 @@ root = record { number = 0; path = [] }
 pub search_starts : (job : Job) (e budget : ℕ) → Searching job e budget (pending ∷ []) (root ∷ []) None
 search_starts job e budget = record {
   paths = [] ∷ [];
-  good = first_good job (Good job e) (tt, tt, tt);
+  good = first_good job (Good job e) (tt, tt, tt, tt);
   fine = fine;
   held = (record { known = omega arith; pending = refl; path = refl }, tt);
   apart = ((λ i. i), tt);
@@ -119,6 +119,13 @@ leaf_earned job e path (Nodes.Bound mults) is = tt
 leaf_earned job e path (Nodes.Cycle objects) is = tt
 leaf_earned job e path Nodes.Pending is = absurd is
 
+split_takes : (node : Node) → 0 < arity node → TakesRows node
+split_takes (Nodes.Order i j) some = tt
+split_takes (Nodes.Side contact children) some = tt
+split_takes (Nodes.Bound mults) some = absurd (omega arith)
+split_takes (Nodes.Cycle objects) some = tt
+split_takes Nodes.Pending some = tt
+
 leaf_closed : (leaf : Node) → IsLeaf leaf → leaf ≡ Nodes.Pending → ⊥
 leaf_closed leaf is e = subst IsLeaf e is
 
@@ -152,7 +159,7 @@ pub search_closes : (job : Job) (e budget : ℕ) (made : List Made) (o : OpenNod
 search_closes job e budget made o open_nodes wide leaf s by = record {
   paths = s.paths;
   good = leaf_good job (Good job e) made s.paths o.number leaf s.good s.held.0.known
-      (subst (λ p. Good job e p leaf) (sym s.held.0.path) (by.sound, leaf_earned job e o.path leaf by.is_leaf, by.spelt)) (leaf_none leaf by.is_leaf)
+      (subst (λ p. Good job e p leaf) (sym s.held.0.path) (by.sound, leaf_earned job e o.path leaf by.is_leaf, by.spelt, by.takes)) (leaf_none leaf by.is_leaf)
       (subst (λ p. AreChildren job p leaf []) (sym s.held.0.path) (leaf_children job o.path leaf by.is_leaf));
   fine = λ k h. s.fine k (omega (arith, h, length-set made o.number (record { node = leaf; first = 0 })));
   held = others_open_leaf made s.paths o.number leaf open_nodes s.apart.0 s.held.1;
@@ -292,8 +299,8 @@ pub search_splits : (job : Job) (e budget : ℕ) (made : List Made) (o : OpenNod
     → Searching job e budget (with_split made o.number node) (map (child_of (length made) o.path choices) visits ++ open_nodes) wide
 search_splits job e budget made o open_nodes wide node choices visits s by order left = record {
   paths = s.paths ++ more;
-  good = split_good job (Good job e) (λ path. (tt, tt, tt)) made s.paths o.number node more s.good s.held.0.known
-      (subst (λ p. Good job e p node) (sym s.held.0.path) (by.sound, by.earned, by.spelt)) (subst (λ p. AreChildren job p node more) (sym s.held.0.path) by.children) (size ∙ by.many);
+  good = split_good job (Good job e) (λ path. (tt, tt, tt, tt)) made s.paths o.number node more s.good s.held.0.known
+      (subst (λ p. Good job e p node) (sym s.held.0.path) (by.sound, by.earned, by.spelt, split_takes node (omega (arith, by.some, by.many)))) (subst (λ p. AreChildren job p node more) (sym s.held.0.path) by.children) (size ∙ by.many);
   fine = λ k h. fine k (omega (arith, h, length_split made o.number node, by.many)) (cases_lt k (length made));
   held = append_open (with_split made o.number node) (s.paths ++ more) (map (child_of (length made) o.path choices) visits) open_nodes
       (new_open (with_split made o.number node) (s.paths ++ more) o.path (length made) (length choices) choices visits (omega (arith, length_split made o.number node, by.many))

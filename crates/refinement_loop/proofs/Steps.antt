@@ -61,6 +61,13 @@ path_step job e budget made open_nodes left wide number path there d head at =
     let p : IsPathOf job budget number path = path_of_open job e budget made (record { number = number; path = path }) left wide (taken job e budget made open_nodes left wide number path d head) in
     subst (IsPath job) (sym at) p.is
 
+pub short_step : (job : Job) (e budget : ℕ) (made : List Made) (open_nodes left : List OpenNode) (wide : Option WideNode) (number : ℕ) (path there : List Choice)
+    → Deciding job e budget made open_nodes wide → open_nodes ≡ record { number = number; path = path } ∷ left → there ≡ path → budget ≤ 1_000_000 → length there ≤ 1_000_000
+short_step job e budget made open_nodes left wide number path there d head at limit =
+    let p : IsPathOf job budget number path = path_of_open job e budget made (record { number = number; path = path }) left wide (taken job e budget made open_nodes left wide number path d head) in
+    let short = p.short in
+    subst (λ (t : List Choice). length t ≤ 1_000_000) (sym at) (omega (arith, short, limit))
+
 -- what was answered of the path that the search stands at
 pub record Looked (job : Job) (e : ℕ) (there : List Choice) (look : Look) : Type 0 where
   pub is : IsLook job e there look

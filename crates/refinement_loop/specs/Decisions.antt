@@ -1,7 +1,7 @@
 -- What a search of one extent may answer.
 --
 --   IsPrintable tree               a text may hold the tree: the grammar spells each node, and none has more than 1,000,000 splits
---                                  above it
+--                                  above it; and no bound takes a row 0 times
 --   HasWideWalk job e path         the walk of the path's system ends wide
 --   IsAllWide job e tree           so does that of each pending node
 --   IsRefutation job e budget tree   the tree is a certificate that the extent has no plan, with less than a split's nodes above the budget
@@ -14,7 +14,7 @@
 --   HasNoWideWalk job e            no walk of a path of the job ends wide
 use Rattle.std.specs.Prelude.{◌≡◌, ℕ, ◌+◌, ◌<◌, List, [], All, length}
 use Rattle.cert_text.specs.TreeText.{IsSpelt, IsSpeltNote}
-use Rattle.node_looks.specs.Looks.{IsFound, IsWideAt, zero_point}
+use Rattle.node_looks.specs.Looks.{IsFound, IsWideAt, TakesRows, zero_point}
 use Rattle.plan_laws.specs.Ordered.{plan_of}
 use Rattle.refinement_loop.specs.declared.deciding.Decision.{Decision}
 use Rattle.refinement_loop.specs.declared.deciding.Decision.TheVariants as Decisions
@@ -30,6 +30,7 @@ use Rattle.seq_model.specs.declared.tree.WideNote.{WideNote}
 pub record IsPrintable (tree : Tree) : Type 0 where
   pub spelt : All IsSpelt tree.nodes
   pub whole : IsWholeWithin 1_000_000 tree
+  pub takes : All TakesRows tree.nodes
 
 abbrev pub HasWideWalk : Job → ℕ → List Choice → Type 0
 HasWideWalk job e path = (basis : List ℕ) × (row : ℕ) × IsWideAt job e path basis row

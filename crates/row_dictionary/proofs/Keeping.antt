@@ -7,6 +7,7 @@ use Rattle.std.proofs.Math.Nat.{dvd-mul_right}
 use Rattle.std.specs.Int.{◌∣◌}
 use Rattle.std.specs.Prelude.{nat_eq, if◌then◌else◌}
 use Rattle.integer_laws.specs.Divisors.{IsGcdOf}
+use Rattle.integer_laws.specs.Laws.Divisors.{exact_quotient}
 use Rattle.integer_laws.specs.Laws.Ring.{expand}
 use Rattle.row_dictionary.specs.Mixing.{mixed, mixed_numbers, IsCommon}
 use Rattle.row_dictionary.specs.declared.number.Mix.{Mix}
@@ -50,28 +51,49 @@ pub multiple_number : (m : Mix) (j : ℕ) (z y found : ℤ) → y ≡ pos 0 → 
 multiple_number m j z y found e p n h =
     divisor_is found (mixed m j z y) h (ap (λ t. int_rem t found) (alone m j z y found e p n) ∙ rem_of_multiple found z (λ k. absurd (omega (arith, ints, h, k))))
 
--- the line has no entry at what enters
-each_multiple : (m : Mix) (j : ℕ) (z y found : ℤ) → m.q ≡ pos 0 → m.p ≡ found → unsigned_abs found ∣ unsigned_abs (mixed m j z y)
+-- neither line has a number there
+pub nothing_number : (m : Mix) (j : ℕ) (z y found : ℤ) → y ≡ pos 0 → z ≡ pos 0 → (j ≡ m.place → ⊥) → pos 0 <ℤ found → IsGcdOf found (mixed m j z y) found
+nothing_number m j z y found e f n h =
+    divisor_is found (mixed m j z y) h (ap (λ t. int_rem t found) (none (nat_eq j m.place) refl) ∙ rem_of_multiple found (pos 0) (λ k. absurd (omega (arith, ints, h, k))))
+  where
+    none : (b : Bool) → nat_eq j m.place ≡ b → (if b then m.d *ℤ m.q else m.p *ℤ z -ℤ m.q *ℤ y) ≡ found *ℤ pos 0
+    none true s = absurd (n (is_here j m.place s))
+    none false s = plain m.p m.q found z y e f
+      where
+        plain : (p q g z y : ℤ) → y ≡ pos 0 → z ≡ pos 0 → p *ℤ z -ℤ q *ℤ y ≡ g *ℤ pos 0
+        plain p q g z y e f = rw (e, f) (left p q g)
+          where
+            left : (p q g : ℤ) → p *ℤ pos 0 -ℤ q *ℤ pos 0 ≡ g *ℤ pos 0
+            left p q g = simp expand (omega (arith, ints))
+
+times : (g x : ℤ) → unsigned_abs g ∣ unsigned_abs (g *ℤ x)
+times g x = subst (λ t. unsigned_abs g ∣ t) (sym (unsigned_abs-mul g x)) (dvd-mul_right (unsigned_abs g) (unsigned_abs x))
+
+-- it divides what both lines are multiplied by
+each_multiple : (m : Mix) (j : ℕ) (z y found : ℤ) → unsigned_abs found ∣ unsigned_abs m.q → unsigned_abs found ∣ unsigned_abs m.p → unsigned_abs found ∣ unsigned_abs (mixed m j z y)
 each_multiple m j z y found q p = by (nat_eq j m.place)
   where
-    of_zero : (d q found : ℤ) → q ≡ pos 0 → d *ℤ q ≡ found *ℤ pos 0
-    of_zero d q found e = rw e (both d found)
-      where
-        both : (d found : ℤ) → d *ℤ pos 0 ≡ found *ℤ pos 0
-        both d found = simp expand
+    q_is : m.q ≡ found *ℤ int_div m.q found
+    q_is = exact_quotient m.q found q
 
-    plain : (p q g z y : ℤ) → q ≡ pos 0 → p ≡ g → p *ℤ z -ℤ q *ℤ y ≡ g *ℤ z
-    plain p q g z y e f = rw (e, f) (left g z y)
-      where
-        left : (g z y : ℤ) → g *ℤ z -ℤ pos 0 *ℤ y ≡ g *ℤ z
-        left g z y = simp expand (omega (arith, ints))
+    p_is : m.p ≡ found *ℤ int_div m.p found
+    p_is = exact_quotient m.p found p
 
-    times : (x : ℤ) → unsigned_abs found ∣ unsigned_abs (found *ℤ x)
-    times x = subst (λ t. unsigned_abs found ∣ t) (sym (unsigned_abs-mul found x)) (dvd-mul_right (unsigned_abs found) (unsigned_abs x))
+    corner : (d q g t : ℤ) → q ≡ g *ℤ t → d *ℤ q ≡ g *ℤ (d *ℤ t)
+    corner d q g t e = rw e (moved d g t)
+      where
+        moved : (d g t : ℤ) → d *ℤ (g *ℤ t) ≡ g *ℤ (d *ℤ t)
+        moved d g t = simp expand
+
+    plain : (p q g z y s t : ℤ) → p ≡ g *ℤ s → q ≡ g *ℤ t → p *ℤ z -ℤ q *ℤ y ≡ g *ℤ (s *ℤ z -ℤ t *ℤ y)
+    plain p q g z y s t e f = rw (e, f) (moved g z y s t)
+      where
+        moved : (g z y s t : ℤ) → (g *ℤ s) *ℤ z -ℤ (g *ℤ t) *ℤ y ≡ g *ℤ (s *ℤ z -ℤ t *ℤ y)
+        moved g z y s t = simp expand (omega (arith, ints))
 
     by : (b : Bool) → unsigned_abs found ∣ unsigned_abs (if b then m.d *ℤ m.q else m.p *ℤ z -ℤ m.q *ℤ y)
-    by true = subst (λ (t : ℤ). unsigned_abs found ∣ unsigned_abs t) (sym (of_zero m.d m.q found q)) (times (pos 0))
-    by false = subst (λ (t : ℤ). unsigned_abs found ∣ unsigned_abs t) (sym (plain m.p m.q found z y q p)) (times z)
+    by true = subst (λ (t : ℤ). unsigned_abs found ∣ unsigned_abs t) (sym (corner m.d m.q found (int_div m.q found) q_is)) (times found (m.d *ℤ int_div m.q found))
+    by false = subst (λ (t : ℤ). unsigned_abs found ∣ unsigned_abs t) (sym (plain m.p m.q found z y (int_div m.p found) (int_div m.q found) p_is q_is)) (times found (int_div m.p found *ℤ z -ℤ int_div m.q found *ℤ y))
 
-pub multiples_common : (m : Mix) (zs ys : List ℤ) (found : ℤ) → length zs ≡ length ys → m.q ≡ pos 0 → m.p ≡ found → IsCommon found (mixed_numbers m zs ys) found
+pub multiples_common : (m : Mix) (zs ys : List ℤ) (found : ℤ) → length zs ≡ length ys → unsigned_abs found ∣ unsigned_abs m.q → unsigned_abs found ∣ unsigned_abs m.p → IsCommon found (mixed_numbers m zs ys) found
 multiples_common m zs ys found l q p k = (λ h. (h, λ i d b. subst (λ (t : ℤ). k ∣ unsigned_abs t) (number_is m zs ys i d l (let n = long_numbers m zs ys l in omega (arith, n, b))) (dvd_trans k h (each_multiple m i (get_or zs i (pos 0)) (get_or ys i (pos 0)) found q p))), λ h. h.0)

@@ -1,4 +1,5 @@
 ghost use Rattle.std.specs.Prelude.{◌≡◌, ◌<◌, ◌^◌, ℤ, pos, ◌<ℤ◌, unsigned_abs, IsTrue, int_div, int_rem};
+ghost use Rattle.std.specs.Int.{◌∣◌};
 
 /// Whether both numbers are below 2^63 in size, so that the quicker division of such numbers serves.
 fn are_short(x: &i128, y: &i128) -> bool
@@ -67,4 +68,11 @@ pub fn divides(found: &i128, x: &i128) -> bool
         return divides_short(found, x);
     }
     *found > 0 && *x % *found == 0
+}
+
+/// Whether a number divides another.
+pub fn is_factor(found: &i128, x: &i64) -> bool
+    ensures { IsTrue result → unsigned_abs found.now ∣ unsigned_abs x.now }
+{
+    *x == 0 || i128::from(*x) == *found || divides(found, &i128::from(*x))
 }

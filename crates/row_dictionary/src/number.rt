@@ -4,7 +4,7 @@ ghost use Rattle.integer_laws.specs.Divisors.{IsGcdOf};
 ghost use Rattle.row_pivots.specs.Ends.{Small};
 ghost use Rattle.row_dictionary.specs.Mixing.{mixed, mixed_numbers, mixed_line, IsCommon};
 
-use crate::division::{divided, divides};
+use crate::division::{divided, divides, is_factor};
 use integer_laws::{difference, wide_product};
 use seq_num::gcd;
 
@@ -119,11 +119,18 @@ fn is_multiple(found: &i128, mix: &Mix, i: usize, y: &i64) -> bool
     *y == 0 && i128::from(mix.p) == *found && i != mix.place && *found > 0
 }
 
-/// Whether all numbers are multiples of what was found, since the line has no entry at what enters.
-pub fn are_multiples(found: &i128, mix: &Mix) -> bool
-    ensures { IsTrue result → (mix.now.q ≡ pos 0) × (mix.now.p ≡ found.now) }
+/// Whether the number at a place is 0, since neither line has one there.
+fn is_nothing(found: &i128, mix: &Mix, i: usize, z: &i64, y: &i64) -> bool
+    ensures { IsTrue result → (y.now ≡ pos 0) × (z.now ≡ pos 0) × (i ≢ mix.now.place) × (pos 0 <ℤ found.now) }
 {
-    mix.q == 0 && i128::from(mix.p) == *found
+    *y == 0 && *z == 0 && i != mix.place && *found > 0
+}
+
+/// Whether all numbers are multiples of what was found, since it divides what both lines are multiplied by.
+pub fn are_multiples(found: &i128, mix: &Mix) -> bool
+    ensures { IsTrue result → (unsigned_abs found.now ∣ unsigned_abs mix.now.q) × (unsigned_abs found.now ∣ unsigned_abs mix.now.p) }
+{
+    is_factor(found, &mix.q) && is_factor(found, &mix.p)
 }
 
 /// The common divisor of a number and the one at a place, before it is divided.
@@ -137,6 +144,9 @@ fn divisor_with(found: &i128, mix: &Mix, i: usize, z: &i64, y: &i64) -> i128
     ensures is { IsGcdOf found.now (mixed mix.now i z.now y.now) result }
     ensures size { unsigned_abs result < 2 ^ 126 }
 {
+    if is_nothing(found, mix, i, z, y) {
+        return *found;
+    }
     if is_multiple(found, mix, i, y) {
         return *found;
     }

@@ -65,27 +65,27 @@ impl Room {
         }
     }
 
-    /// The row with constant c of a side of objects i and j was added.
-    pub fn narrow(&mut self, i: u32, j: u32, dir: &Dir, c: i64) {
+    /// The row with this constant of a side of objects i and j was added.
+    pub fn narrow(&mut self, i: u32, j: u32, dir: &Dir, constant: i64) {
         if i >= 16 || j >= 16 {
             return;
         }
         let (i, j) = (2 * i as usize, 2 * j as usize);
         let along_y = self.most(dir.y, i + 1, j + 1);
-        self.narrow_axis(dir.x, c.saturating_add(along_y), i, j);
+        self.narrow_axis(dir.x, constant.saturating_add(along_y), i, j);
         let along_x = self.most(dir.x, i, j);
-        self.narrow_axis(dir.y, c.saturating_add(along_x), i + 1, j + 1);
+        self.narrow_axis(dir.y, constant.saturating_add(along_x), i + 1, j + 1);
     }
 
-    /// Whether the row with constant c of a side of objects i and j can still be met.
-    pub fn is_live(&self, i: u32, j: u32, dir: &Dir, c: i64) -> bool {
+    /// Whether the row with this constant of a side of objects i and j can still be met.
+    pub fn is_live(&self, i: u32, j: u32, dir: &Dir, constant: i64) -> bool {
         if i >= 16 || j >= 16 {
             return true;
         }
         let (i, j) = (2 * i as usize, 2 * j as usize);
         let x = self.most(dir.x, i, j);
         let y = self.most(dir.y, i + 1, j + 1);
-        x.saturating_add(y).saturating_add(c) >= 0
+        x.saturating_add(y).saturating_add(constant) >= 0
     }
 }
 
@@ -98,8 +98,8 @@ pub fn row_constant(dir: &Dir, most: i64, shift: &Spot) -> i64 {
 
 /// How far a point is from beyond a side: the square of what its row lacks there, in sixteenths of a unit, over that of the direction's
 /// length. The gap is that of the two objects' variables, over the denominator.
-pub fn push(dir: &Dir, c: i64, gap: &Spot, den: i64) -> i128 {
-    let missed = sixteenths(dir, c, gap, den);
+pub fn push(dir: &Dir, constant: i64, gap: &Spot, den: i64) -> i128 {
+    let missed = sixteenths(dir, constant, gap, den);
     let x = dir.x.saturating_mul(dir.x);
     let y = dir.y.saturating_mul(dir.y);
     let length = x.saturating_add(y);
@@ -110,10 +110,10 @@ pub fn push(dir: &Dir, c: i64, gap: &Spot, den: i64) -> i128 {
     square / i128::from(length)
 }
 
-fn sixteenths(dir: &Dir, c: i64, gap: &Spot, den: i64) -> i64 {
+fn sixteenths(dir: &Dir, constant: i64, gap: &Spot, den: i64) -> i64 {
     let x = i128::from(dir.x).saturating_mul(i128::from(gap.x));
     let y = i128::from(dir.y).saturating_mul(i128::from(gap.y));
-    let value = i128::from(c)
+    let value = i128::from(constant)
         .saturating_mul(i128::from(den))
         .saturating_add(x)
         .saturating_add(y);

@@ -19,7 +19,8 @@ pub(crate) fn found<'a>(
     words: &'a [String],
 ) -> Result<ArgMatches<'a>, Words>
     requires { is_simple_and_free (simple_command name.now usage.now) ≡ true }
-    ensures ok { IfOk result (λ m. rows_by (simple_command name.entry.now usage.now) (texts words.entry.now) ≡ Some (rows_of (found_of m))) }
+    ensures ok { IfOk result (λ m. rows_by (simple_command name.entry.now usage.now)
+        (texts words.entry.now) ≡ Some (rows_of (found_of m))) }
     ensures err { IfErr result (λ e. (e ≡ Words.NoMemory)
         ⊎ ((e ≡ Words.Usage)
         × (rows_by (simple_command name.entry.now usage.now) (texts words.entry.now) ≡ None))) }
@@ -54,7 +55,8 @@ fn refusal(kind: ErrorKind) -> Words
 
 /// The text of an option or of a positional, if there is one.
 pub(crate) fn given<'a>(matches: &ArgMatches<'a>, name: Name) -> Option<&'a str>
-    ensures { option_map (λ s. s.now) result ≡ first_of (label_of name) (rows_of (found_of matches.now)) }
+    ensures { option_map (λ s. s.now) result ≡ first_of (label_of name)
+        (rows_of (found_of matches.now)) }
 {
     matches.get_str(label(name))
 }

@@ -15,5 +15,5 @@ returns-in-Contradiction-clause-look c =
     let path = c.args.path.now in
     let s = subst (λ (v : Solved). Solves (2 * length job.objects) (system job c.args.extent path) v) c.in-Contradiction.is c.in_ok-den.ensures.is in
     let t = subst IsShortest c.in-Contradiction.is c.in_ok-den.ensures.shortest in
-    subst (λ (ms : List Mult). ClosesBy job c.args.extent path (Nodes.Bound ms)) (sym c.from_vec-in-Contradiction.ensures)
+    subst (λ (ms : List Mult). ClosesBy job c.args.extent path (Nodes.Bound ms)) (sym c.from_vec.ensures)
     (bound_closes job c.args.extent path c.in-Contradiction.mults.items c.requires.short s.0 s.1 s.2 s.3 s.4 t)

@@ -1,5 +1,5 @@
-use Rattle.node_looks.specs.Held.{HoldsOrders}
+use Rattle.node_looks.specs.Sites.{HoldsUpTo}
 use Rattle.node_looks.proofs.orders.graph_of.Given as goal
 
-abbrev pub invariant-loop-k : goal.invariant-loop-k
-invariant-loop-k l = HoldsOrders l.path l.n l.k l.graph
+abbrev pub invariant-loop-i : goal.invariant-loop-i
+invariant-loop-i l = HoldsUpTo l.site l.i 0 l.graph

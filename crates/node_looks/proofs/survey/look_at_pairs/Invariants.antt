@@ -1,6 +1,5 @@
 use Rattle.node_looks.specs.Candidates.{IsSurveyed}
-use Rattle.node_looks.specs.Points.{values}
 use Rattle.node_looks.proofs.survey.look_at_pairs.Given as goal
 
-abbrev pub invariant-loop-k : goal.invariant-loop-k
-invariant-loop-k l = IsSurveyed l.job l.extent l.path (values l.at) l.k l.survey.best l.survey.forced.items
+abbrev pub invariant-loop-i : goal.invariant-loop-i
+invariant-loop-i l = IsSurveyed l.site l.i 0 l.survey.best l.survey.forced.items

@@ -1,6 +1,5 @@
 use Rattle.node_looks.proofs.HitLaws.{settled_ordered}
-use Rattle.node_looks.specs.Points.{values}
 use Rattle.node_looks.proofs.survey.ordered_pair.Goals as goal
 
 pub returns-in-None-hit_on_path : goal.returns-in-None-hit_on_path
-returns-in-None-hit_on_path c = settled_ordered c.args.job.now c.args.extent c.args.path.now (values c.args.at.now) c.args.i c.args.j c.requires.ordered c.in-None.ensures c.in-None-hit_on_path.ensures
+returns-in-None-hit_on_path c = settled_ordered c.args.site.now c.args.i c.args.j c.requires.ordered c.in-None.ensures c.in-None-hit_on_path.ensures

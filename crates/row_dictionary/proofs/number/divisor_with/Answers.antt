@@ -2,7 +2,7 @@ use Rattle.std.proofs.Common.{rules, ℤ, sym, subst, SFits, to_z-of_z}
 use Rattle.std.specs.Int.{w128}
 use Rattle.integer_laws.specs.Divisors.{IsGcdOf}
 use Rattle.row_dictionary.specs.Mixing.{mixed}
-use Rattle.row_dictionary.proofs.Keeping.{multiple_number}
+use Rattle.row_dictionary.proofs.Keeping.{multiple_number, nothing_number}
 use Rattle.row_dictionary.proofs.number.divisor_with.Goals as goal
 
 pub returns-then-is_multiple-clause-is : goal.returns-then-is_multiple-clause-is
@@ -11,3 +11,10 @@ returns-then-is_multiple-clause-is c =
     let fits : SFits w128 c.args.found.now = search rules in
     subst (λ (t : ℤ). IsGcdOf c.args.found.now (mixed c.args.mix.now c.args.i c.args.z.now c.args.y.now) t) (sym (to_z-of_z fits))
     (multiple_number c.args.mix.now c.args.i c.args.z.now c.args.y.now c.args.found.now k.0 k.1 k.2 k.3)
+
+pub returns-then-is_nothing-clause-is : goal.returns-then-is_nothing-clause-is
+returns-then-is_nothing-clause-is c =
+    let k = c.is_nothing.ensures c.if-is_nothing.true in
+    let fits : SFits w128 c.args.found.now = search rules in
+    subst (λ (t : ℤ). IsGcdOf c.args.found.now (mixed c.args.mix.now c.args.i c.args.z.now c.args.y.now) t) (sym (to_z-of_z fits))
+    (nothing_number c.args.mix.now c.args.i c.args.z.now c.args.y.now c.args.found.now k.0 k.1 k.2 k.3)

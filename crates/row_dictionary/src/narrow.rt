@@ -1,0 +1,154 @@
+ghost use Rattle.std.specs.Prelude.{◌≡◌, ℕ, ◌<◌, ◌*◌, ◌^◌, List, ℤ, ◌-ℤ◌, ◌*ℤ◌, unsigned_abs, All, IsTrue, length, int_div};
+ghost use Rattle.std.specs.Int.{◌∣◌};
+ghost use Rattle.row_pivots.specs.Ends.{Small};
+ghost use Rattle.row_dictionary.specs.Mixing.{mixed, mixed_line, Narrow, IsNarrowMix, IsLowered};
+
+use crate::division::{divided, is_factor};
+use crate::number::Mix;
+
+fn is_narrow(x: &i64) -> bool
+    ensures { IsTrue result → Narrow x.now }
+{
+    x.unsigned_abs() < 1 << 30
+}
+
+/// Whether all numbers are below 2^30 in size.
+pub fn are_narrow(numbers: &[i64]) -> bool
+    ensures { IsTrue result → All Narrow numbers.now }
+{
+    numbers.iter().all(|x| is_narrow(x))
+}
+
+/// Whether what lines are multiplied by is below 2^30 in size.
+pub fn is_narrow_mix(mix: &Mix) -> bool
+    ensures { IsTrue result → IsNarrowMix mix.now }
+{
+    is_narrow(&mix.d) && is_narrow(&mix.p) && is_narrow(&mix.q)
+}
+
+fn lowered(x: &i64, g: &i128) -> i64
+    requires x { Small x.now }
+    requires g { 0 < unsigned_abs g.now }
+    ensures is { result ≡ int_div x.now g.now }
+    ensures size { Small result }
+{
+    divided(&i128::from(*x), g) as i64
+}
+
+/// What gives the same line without a division, where the divisor divides what both lines are multiplied by.
+pub fn lowest(mix: &Mix) -> Mix
+    requires p { Small mix.now.p }
+    requires q { Small mix.now.q }
+    requires g { 0 < unsigned_abs mix.now.g }
+    ensures { IsLowered mix.now result }
+{
+    if !is_factor(&mix.g, &mix.q) || !is_factor(&mix.g, &mix.p) {
+        return *mix;
+    }
+    Mix {
+        d: mix.d,
+        p: lowered(&mix.p, &mix.g),
+        q: lowered(&mix.q, &mix.g),
+        g: 1,
+        place: mix.place,
+    }
+}
+
+fn product(x: i64, y: i64) -> i64
+    requires { unsigned_abs x * unsigned_abs y < 2 ^ 60 }
+    ensures value { result ≡ x *ℤ y }
+    ensures size { unsigned_abs result ≡ unsigned_abs x * unsigned_abs y }
+{
+    x * y
+}
+
+fn narrow_product(x: &i64, y: &i64) -> i64
+    requires x { Narrow x.now }
+    requires y { Narrow y.now }
+    ensures value { result ≡ x.now *ℤ y.now }
+    ensures size { unsigned_abs result < 2 ^ 60 }
+{
+    product(*x, *y)
+}
+
+fn narrow_difference(x: &i64, y: &i64) -> i64
+    requires x { unsigned_abs x.now < 2 ^ 60 }
+    requires y { unsigned_abs y.now < 2 ^ 60 }
+    ensures value { result ≡ x.now -ℤ y.now }
+    ensures size { Small result }
+{
+    *x - *y
+}
+
+/// p * z - q * y
+fn narrow_crossed(mix: &Mix, z: &i64, y: &i64) -> i64
+    requires mix { IsNarrowMix mix.now }
+    requires z { Narrow z.now }
+    requires y { Narrow y.now }
+    ensures value { result ≡ mix.now.p *ℤ z.now -ℤ mix.now.q *ℤ y.now }
+    ensures size { Small result }
+{
+    narrow_difference(&narrow_product(&mix.p, z), &narrow_product(&mix.q, y))
+}
+
+/// d * q
+fn narrow_turned(mix: &Mix) -> i64
+    requires { IsNarrowMix mix.now }
+    ensures value { result ≡ mix.now.d *ℤ mix.now.q }
+    ensures size { Small result }
+{
+    narrow_product(&mix.d, &mix.q)
+}
+
+/// The number at a place, before it is divided.
+fn narrow_number(mix: &Mix, j: usize, z: &i64, y: &i64) -> i64
+    requires mix { IsNarrowMix mix.now }
+    requires z { Narrow z.now }
+    requires y { Narrow y.now }
+    ensures value { result ≡ mixed mix.now j z.now y.now }
+    ensures size { Small result }
+{
+    if j == mix.place {
+        narrow_turned(mix)
+    } else {
+        narrow_crossed(mix, z, y)
+    }
+}
+
+/// The quotient by the divisor.
+fn narrow_quotient(x: &i64, g: &i128) -> i64
+    requires x { Small x.now }
+    requires g { 0 < unsigned_abs g.now }
+    ensures { result ≡ int_div x.now g.now }
+{
+    if *g == 1 || *x == 0 {
+        return *x;
+    }
+    divided(&i128::from(*x), g) as i64
+}
+
+/// The new number at a place.
+fn new_narrow(mix: &Mix, i: usize, z: &i64, y: &i64) -> i64
+    requires mix { IsNarrowMix mix.now }
+    requires g { 0 < unsigned_abs mix.now.g }
+    requires z { Narrow z.now }
+    requires y { Narrow y.now }
+    ensures { result ≡ int_div (mixed mix.now i z.now y.now) mix.now.g }
+{
+    narrow_quotient(&narrow_number(mix, i, z, y), &mix.g)
+}
+
+/// The line, pivoted, where all its numbers and all that it is multiplied by are below 2^30 in size.
+pub fn pivot_narrow(line: &mut [i64], by: &[i64], mix: &Mix)
+    requires mix { IsNarrowMix mix.now }
+    requires g { 0 < unsigned_abs mix.now.g }
+    requires line { All Narrow line.old }
+    requires by { All Narrow by.now }
+    requires len { length line.old ≡ length by.now }
+    requires place { mix.now.place < length line.old }
+    ensures { line.new ≡ mixed_line mix.now line.old by.now }
+{
+    for i in 0..line.len() {
+        line[i] = new_narrow(mix, i, &line[i], &by[i]);
+    }
+}
