@@ -1,6 +1,6 @@
 //! A look that solves the system of each node anew.
 
-ghost use Rattle.std.specs.Prelude.{◌≡◌, ◌*◌, ◌≤◌, ◌<◌, ◌^◌, [], length, pos, ◌≤ℤ◌, ◌<ℤ◌, IfOk};
+ghost use Rattle.std.specs.Prelude.{◌≡◌, ◌*◌, ◌≤◌, [], length, IfOk};
 ghost use Rattle.feasible_point.specs.Answering.{HasSmallDen, Solves, IsZeroPoint};
 ghost use Rattle.feasible_point.specs.Shortening.{IsShortest};
 ghost use Rattle.node_looks.specs.Candidates.{IsCandidate};

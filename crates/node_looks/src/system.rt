@@ -34,64 +34,31 @@ fn bound_row(alloc: Global, job: &Job, variable: usize, bound: &i64) -> Result<R
 }
 
 // What is left of a size by a span from low to high.
-fn room(size: i64, low: i64, high: i64) -> i64
-    requires size { unsigned_abs size ≤ 20_000 }
-    requires low { unsigned_abs low ≤ 1_001_000 }
-    requires high { unsigned_abs high ≤ 1_001_000 }
-    ensures { result ≡ size -ℤ (high -ℤ low) }
+fn room(size: &i64, low: &i64, high: &i64) -> i64
+    requires size { unsigned_abs size.now ≤ 20_000 }
+    requires low { unsigned_abs low.now ≤ 1_001_000 }
+    requires high { unsigned_abs high.now ≤ 1_001_000 }
+    ensures { result ≡ size.now -ℤ (high.now -ℤ low.now) }
 {
-    size - (high - low)
+    *size - (*high - *low)
 }
 
-fn room_in_x(region: &Region, object: &Object) -> i64
-    requires size { unsigned_abs region.now.w ≤ 20_000 }
-    requires low { IsNearSpot 1_001_000 object.now.low }
-    requires high { IsNearSpot 1_001_000 object.now.high }
-    ensures { result ≡ region.now.w -ℤ (object.now.high.x -ℤ object.now.low.x) }
-{
-    room(region.w, object.low.x, object.high.x)
-}
-
-fn room_in_y(region: &Region, object: &Object) -> i64
-    requires size { unsigned_abs region.now.h ≤ 20_000 }
-    requires low { IsNearSpot 1_001_000 object.now.low }
-    requires high { IsNearSpot 1_001_000 object.now.high }
-    ensures { result ≡ region.now.h -ℤ (object.now.high.y -ℤ object.now.low.y) }
-{
-    room(region.h, object.low.y, object.high.y)
-}
-
-fn x_bound(
+// The row that a variable is at most what is left.
+fn room_row(
     alloc: Global,
     job: &Job,
-    region: &Region,
-    object: &Object,
     variable: usize,
+    size: &i64,
+    low: &i64,
+    high: &i64,
 ) -> Result<Row, AllocError>
     requires variable { variable < 2 * length job.now.objects }
-    requires w { unsigned_abs region.now.w ≤ 20_000 }
-    requires low { IsNearSpot 1_001_000 object.now.low }
-    requires high { IsNearSpot 1_001_000 object.now.high }
-    ensures { IfOk result (λ row. row ≡ at_most job.now variable (region.now.w -ℤ (object.now.high.x -ℤ object.now.low.x))) }
+    requires size { unsigned_abs size.now ≤ 20_000 }
+    requires low { unsigned_abs low.now ≤ 1_001_000 }
+    requires high { unsigned_abs high.now ≤ 1_001_000 }
+    ensures { IfOk result (λ row. row ≡ at_most job.now variable (size.now -ℤ (high.now -ℤ low.now))) }
 {
-    let bound = room_in_x(region, object);
-    bound_row(alloc, job, variable, &bound)
-}
-
-fn y_bound(
-    alloc: Global,
-    job: &Job,
-    region: &Region,
-    object: &Object,
-    variable: usize,
-) -> Result<Row, AllocError>
-    requires variable { variable < 2 * length job.now.objects }
-    requires h { unsigned_abs region.now.h ≤ 20_000 }
-    requires low { IsNearSpot 1_001_000 object.now.low }
-    requires high { IsNearSpot 1_001_000 object.now.high }
-    ensures { IfOk result (λ row. row ≡ at_most job.now variable (region.now.h -ℤ (object.now.high.y -ℤ object.now.low.y))) }
-{
-    let bound = room_in_y(region, object);
+    let bound = room(size, low, high);
     bound_row(alloc, job, variable, &bound)
 }
 
@@ -112,8 +79,9 @@ fn push_bounds(
         ++ (at_most job.now variable (region.now.w -ℤ (object.now.high.x -ℤ object.now.low.x))
         ∷ at_most job.now (variable + 1) (region.now.h -ℤ (object.now.high.y -ℤ object.now.low.y)) ∷ [])) }
 {
-    rows.push(x_bound(alloc, job, region, object, variable)?)?;
-    rows.push(y_bound(alloc, job, region, object, variable + 1)?)?;
+    let (low, high) = (&object.low, &object.high);
+    rows.push(room_row(alloc, job, variable, &region.w, &low.x, &high.x)?)?;
+    rows.push(room_row(alloc, job, variable + 1, &region.h, &low.y, &high.y)?)?;
     Ok(())
 }
 
