@@ -10,7 +10,11 @@ mod arranging;
 #[cfg(test)]
 mod auditing;
 #[cfg(test)]
+mod checking;
+#[cfg(test)]
 mod describing;
+#[cfg(test)]
+mod least;
 #[cfg(test)]
 mod meshes;
 #[cfg(test)]

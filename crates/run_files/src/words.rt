@@ -3,7 +3,7 @@ ghost use Rattle.seq_words.specs.declared.command.Command.{Command};
 ghost use Rattle.seq_words.specs.Usages.{texts};
 ghost use Rattle.seq_words.specs.declared.command.Words.{Words};
 ghost use Rattle.run_files.specs.Files.{name_in, name_or};
-ghost use Rattle.run_files.specs.Words.{IsRequest, request_by, request_of, requested};
+ghost use Rattle.run_files.specs.Words.{IsRequest, arranging, request_by, request_of, requested};
 
 use crate::NamedFile;
 use owned_lists::{Items, Text};
@@ -24,7 +24,10 @@ pub enum Task {
     /// A strict run refuses a mesh that isn't closed or doesn't look outward. A search has at most the budget of nodes, but for its last
     /// split's children.
     Arrange { strict: bool, budget: u64 },
+    /// The same for the least extent, where the budget holds for each extent that is tried.
+    Least { strict: bool, budget: u64 },
     Audit,
+    Check,
     Slices,
 }
 
@@ -33,7 +36,7 @@ pub enum Task {
 pub struct Asked {
     pub task: Task,
     pub printer: Text,
-    /// An audit is of a plan.
+    /// An audit and a check are of a plan.
     pub plan: Option<Text>,
     /// 1 to 16.
     pub meshes: Items<Text>,
@@ -77,6 +80,16 @@ fn request_to_slice(alloc: Global, printer: Text, mesh: Text) -> Result<Asked, M
     })
 }
 
+fn arranging(least: bool, strict: bool, budget: u64) -> Task
+    ensures { result ≡ arranging least strict budget }
+{
+    if least {
+        Task::Least { strict, budget }
+    } else {
+        Task::Arrange { strict, budget }
+    }
+}
+
 // What a command asks for, if it is built.
 fn request_of(alloc: Global, command: Command) -> Result<Asked, Misworded>
     ensures asked { IfOk result (λ a. request_of command ≡ Ok a) }
@@ -85,19 +98,24 @@ fn request_of(alloc: Global, command: Command) -> Result<Asked, Misworded>
 {
     match command {
         Command::Arrange {
-            least: false,
+            least,
             strict,
             budget,
             printer,
             meshes,
-        } => request_by(Task::Arrange { strict, budget }, printer, None, meshes),
+        } => request_by(arranging(least, strict, budget), printer, None, meshes),
+        Command::Check {
+            printer,
+            plan,
+            meshes,
+        } => request_by(Task::Check, printer, Some(plan), meshes),
         Command::Audit {
             printer,
             plan,
             meshes,
         } => request_by(Task::Audit, printer, Some(plan), meshes),
         Command::Slices { printer, mesh } => request_to_slice(alloc, printer, mesh),
-        _ => Err(Misworded::NotBuilt),
+        Command::Trial { .. } => Err(Misworded::NotBuilt),
     }
 }
 

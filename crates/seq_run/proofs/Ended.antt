@@ -1,25 +1,26 @@
 -- What a run says by its number, from what it says by its status.
-use Rattle.std.proofs.Common.{◌≡◌, ◌⊎◌, ℕ, zero, suc, List, [], ◌∷◌, Option, Some, Result, Ok, Err, IsErr, inl, inr, refl, sym, ap, ◌∙◌, subst}
+use Rattle.std.proofs.Common.{◌≡◌, ◌≢◌, ◌≤◌, ◌⊎◌, ℕ, zero, suc, List, [], ◌∷◌, Option, Some, Result, Ok, Err, IsErr, inl, inr, refl, sym, ap, ◌∙◌, subst, arith}
 use Rattle.seq_io.specs.Taken.{Wrote}
 use Rattle.seq_io.specs.Views.{ShelfView, SinkView}
 use Rattle.seq_io.specs.declared.mem_file.MemFile.{MemFile}
 use Rattle.run_files.specs.Causes.{Refuses}
 use Rattle.run_lines.specs.Messages.{line_of}
 use Rattle.seq_run.specs.Printed.{Answers}
-use Rattle.seq_run.specs.Runs.{AskedEnds, Ends, HasEnough, HasFault, HasNoPlan, IsUsable}
+use Rattle.seq_run.specs.Premises.{HasEnough, HasFault, HasNoFault, HasNoPlan, IsUsable}
+use Rattle.seq_run.specs.Runs.{AskedEnds, Ends}
 use Rattle.seq_run.specs.Statuses.{IsOneOf, code_of, status_of}
 use Rattle.run_files.specs.Stops.{Explains, IsUntouched, WantsMemory}
 use Rattle.run_files.specs.Words.{Asks, requested}
 use Rattle.seq_run.specs.declared.status.Status.{Status}
 use Rattle.seq_run.specs.declared.status.Status.TheVariants.{Answered, WrongWords, ReadFault, WrongFile, WriteFault, NoMemory}
 use Rattle.seq_run.specs.declared.status.Verdict.{Verdict}
-use Rattle.seq_run.specs.declared.status.Verdict.TheVariants.{Done, Fault, NoPlan, Undecided}
+use Rattle.seq_run.specs.declared.status.Verdict.TheVariants.{Done, Fault, NoPlan, Open, Undecided}
 use Rattle.run_files.specs.declared.stop.Stop.{Stop}
 use Rattle.run_files.specs.declared.stop.Stop.TheVariants.{Read, Input, Memory}
 use Rattle.run_files.specs.declared.words.Asked.{Asked}
 use Rattle.run_files.specs.declared.words.Misworded.{Misworded}
 use Rattle.run_files.specs.Laws.Exact.{refused_files-unusable}
-use Rattle.seq_run.proofs.Found.{arranged_fault, arranged_fault_enough, arranged_undecided, audited_none, audited_undecided, found_plan-one, good_plan-one}
+use Rattle.seq_run.proofs.Found.{IsSearched, done_faulty, done_none, fault_faultless, fault_sought, open_enough, open_none, searched_faulty, searched_faultless, undecided_enough}
 
 -- the status of a number
 abbrev pub status_at : ℕ → Status
@@ -28,6 +29,7 @@ status_at (suc zero) = Answered NoPlan
 status_at (suc (suc zero)) = WrongWords
 status_at (suc (suc (suc zero))) = ReadFault
 status_at (suc (suc (suc (suc zero)))) = WrongFile
+status_at (suc (suc (suc (suc (suc zero))))) = Answered Open
 status_at (suc (suc (suc (suc (suc (suc zero)))))) = Answered Undecided
 status_at (suc (suc (suc (suc (suc (suc (suc zero))))))) = Answered Fault
 status_at (suc (suc (suc (suc (suc (suc (suc (suc zero)))))))) = WriteFault
@@ -36,6 +38,7 @@ status_at n = NoMemory
 status_at-code : (s : Status) → status_at (code_of s) ≡ s
 status_at-code (Answered Done) = refl
 status_at-code (Answered NoPlan) = refl
+status_at-code (Answered Open) = refl
 status_at-code (Answered Undecided) = refl
 status_at-code (Answered Fault) = refl
 status_at-code WrongWords = refl
@@ -49,16 +52,17 @@ pub at_number : (P : Status → Type 0) (s : Status) (r n : ℕ) → r ≡ code_
 at_number P s r n code is h = subst P (sym (ap status_at (sym is ∙ code) ∙ status_at-code s)) h
 
 -- the numbers that a run may end with
-pub ends_once : (s : Status) → IsOneOf (0 ∷ 1 ∷ 2 ∷ 3 ∷ 4 ∷ 6 ∷ 7 ∷ 8 ∷ 9 ∷ []) (code_of s)
-ends_once (Answered Done) = inl refl
-ends_once (Answered NoPlan) = inr (inl refl)
-ends_once WrongWords = inr (inr (inl refl))
-ends_once ReadFault = inr (inr (inr (inl refl)))
-ends_once WrongFile = inr (inr (inr (inr (inl refl))))
-ends_once (Answered Undecided) = inr (inr (inr (inr (inr (inl refl)))))
-ends_once (Answered Fault) = inr (inr (inr (inr (inr (inr (inl refl))))))
-ends_once WriteFault = inr (inr (inr (inr (inr (inr (inr (inl refl)))))))
-ends_once NoMemory = inr (inr (inr (inr (inr (inr (inr (inr refl)))))))
+pub ends_once : (s : Status) → code_of s ≤ 9
+ends_once (Answered Done) = omega arith
+ends_once (Answered NoPlan) = omega arith
+ends_once (Answered Open) = omega arith
+ends_once (Answered Undecided) = omega arith
+ends_once (Answered Fault) = omega arith
+ends_once WrongWords = omega arith
+ends_once ReadFault = omega arith
+ends_once WrongFile = omega arith
+ends_once WriteFault = omega arith
+ends_once NoMemory = omega arith
 
 -- what the words ask for is one thing
 asked-one : (r : Result Asked Misworded) (a b : Asked) → r ≡ Ok a → r ≡ Ok b → b ≡ a
@@ -74,6 +78,9 @@ usable files a n = record { inputs = n.inputs; usable = n.usable }
 sufficient : (files : Option (List MemFile)) (a : Asked) → HasEnough files a → IsUsable files a
 sufficient files a n = record { inputs = n.inputs; usable = n.usable }
 
+faultless : (files : Option (List MemFile)) (a : Asked) → HasNoFault files a → IsUsable files a
+faultless files a n = record { inputs = n.inputs; usable = n.usable }
+
 faulty : (files : Option (List MemFile)) (a : Asked) → HasFault files a → IsUsable files a
 faulty files a n = record { inputs = n.inputs; usable = n.usable }
 
@@ -87,6 +94,7 @@ module _ (words : List (List ℕ)) (s s' : ShelfView) (e e' o o' : SinkView) whe
   pub words_always : (status : Status) → E status → IsErr (requested words) → IsOneOf (2 ∷ 8 ∷ 9 ∷ []) (code_of status)
   words_always (Answered Done) x h = absurd (refused-asked (requested words) x.asked h x.accepted)
   words_always (Answered NoPlan) x h = absurd (refused-asked (requested words) x.asked h x.accepted)
+  words_always (Answered Open) x h = absurd (refused-asked (requested words) x.asked h x.accepted)
   words_always (Answered Undecided) x h = absurd (refused-asked (requested words) x.asked h x.accepted)
   words_always (Answered Fault) x h = absurd (refused-asked (requested words) x.asked h x.accepted)
   words_always WrongWords x h = inl refl
@@ -106,15 +114,16 @@ module _ (words : List (List ℕ)) (s s' : ShelfView) (e e' o o' : SinkView) whe
   answers_told : (verdict : Verdict) (files : List MemFile) → s.files ≡ Some files → (x : E (Answered verdict)) → Answers (Some files) x.asked verdict x.so.notes x.so.text
   answers_told verdict files told x = subst (λ fs. Answers fs x.asked verdict x.so.notes x.so.text) told x.so.answers
 
+  -- what is said of the files, of the words that this run had
+  here : (P : Asked → Type 0) (verdict : Verdict) → (x : E (Answered verdict)) → (n : Asks words P) → P x.asked
+  here P verdict x n = subst P (asked-one (requested words) x.asked n.asked x.accepted n.accepted) n.so
+
   pub none_always : (status : Status) → E status → (files : List MemFile) → s.files ≡ Some files → Asks words (HasNoPlan (Some files)) → IsOneOf (1 ∷ 3 ∷ 6 ∷ 8 ∷ 9 ∷ []) (code_of status)
-  none_always (Answered Done) x files told n =
-      let same = asked-one (requested words) x.asked n.asked x.accepted n.accepted in
-      absurd (found_plan-one files x.asked x.so.notes x.so.text (answers_told Done files told x) (subst (HasNoPlan (Some files)) same n.so))
+  none_always (Answered Done) x files told n = absurd (done_none files x.asked x.so.notes x.so.text (here (HasNoPlan (Some files)) Done x n) (answers_told Done files told x))
   none_always (Answered NoPlan) x files told n = inl refl
+  none_always (Answered Open) x files told n = absurd (open_none files x.asked x.so.notes x.so.text (here (HasNoPlan (Some files)) Open x n) (answers_told Open files told x))
   none_always (Answered Undecided) x files told n = inr (inr (inl refl))
-  none_always (Answered Fault) x files told n =
-      let same = asked-one (requested words) x.asked n.asked x.accepted n.accepted in
-      absurd (arranged_fault files x.asked x.so.notes x.so.text (answers_told Fault files told x) (subst (HasNoPlan (Some files)) same n.so))
+  none_always (Answered Fault) x files told n = absurd (fault_sought files x.asked x.so.notes x.so.text (here (HasNoPlan (Some files)) Fault x n).arranges (answers_told Fault files told x))
   none_always WrongWords x files told n = absurd (accepted-refused (requested words) n.asked x.0.why n.accepted x.0.refused)
   none_always ReadFault x files told n = inr (inl refl)
   none_always WrongFile x files told n = absurd (not_refused files told x (record { asked = n.asked; accepted = n.accepted; so = usable (Some files) n.asked n.so }))
@@ -124,28 +133,23 @@ module _ (words : List (List ℕ)) (s s' : ShelfView) (e e' o o' : SinkView) whe
   pub decided_always : (status : Status) → E status → (files : List MemFile) → s.files ≡ Some files → Asks words (HasEnough (Some files)) → IsOneOf (0 ∷ 1 ∷ 3 ∷ 8 ∷ 9 ∷ []) (code_of status)
   decided_always (Answered Done) x files told n = inl refl
   decided_always (Answered NoPlan) x files told n = inr (inl refl)
-  decided_always (Answered Undecided) x files told n =
-      let same = asked-one (requested words) x.asked n.asked x.accepted n.accepted in
-      absurd (arranged_undecided files x.asked x.so.notes x.so.text (answers_told Undecided files told x) (subst (HasEnough (Some files)) same n.so))
-  decided_always (Answered Fault) x files told n =
-      let same = asked-one (requested words) x.asked n.asked x.accepted n.accepted in
-      absurd (arranged_fault_enough files x.asked x.so.notes x.so.text (answers_told Fault files told x) (subst (HasEnough (Some files)) same n.so))
+  decided_always (Answered Open) x files told n = absurd (open_enough files x.asked x.so.notes x.so.text (here (HasEnough (Some files)) Open x n) (answers_told Open files told x))
+  decided_always (Answered Undecided) x files told n = absurd (undecided_enough files x.asked x.so.notes x.so.text (here (HasEnough (Some files)) Undecided x n) (answers_told Undecided files told x))
+  decided_always (Answered Fault) x files told n = absurd (fault_sought files x.asked x.so.notes x.so.text (here (HasEnough (Some files)) Fault x n).arranges (answers_told Fault files told x))
   decided_always WrongWords x files told n = absurd (accepted-refused (requested words) n.asked x.0.why n.accepted x.0.refused)
   decided_always ReadFault x files told n = inr (inr (inl refl))
   decided_always WrongFile x files told n = absurd (not_refused files told x (record { asked = n.asked; accepted = n.accepted; so = sufficient (Some files) n.asked n.so }))
   decided_always WriteFault x files told n = inr (inr (inr (inl refl)))
   decided_always NoMemory x files told n = inr (inr (inr (inr refl)))
 
+  searched_bad : (v : Verdict) → IsSearched v → (x : E (Answered v)) → (files : List MemFile) → s.files ≡ Some files → Asks words (HasFault (Some files)) → ⊥
+  searched_bad v is x files told n = searched_faulty files x.asked v x.so.notes x.so.text (here (HasFault (Some files)) v x n) is (answers_told v files told x)
+
   pub fault_always : (status : Status) → E status → (files : List MemFile) → s.files ≡ Some files → Asks words (HasFault (Some files)) → IsOneOf (3 ∷ 7 ∷ 8 ∷ 9 ∷ []) (code_of status)
-  fault_always (Answered Done) x files told n =
-      let same = asked-one (requested words) x.asked n.asked x.accepted n.accepted in
-      absurd (good_plan-one files x.asked x.so.notes x.so.text (answers_told Done files told x) (subst (HasFault (Some files)) same n.so))
-  fault_always (Answered NoPlan) x files told n =
-      let same = asked-one (requested words) x.asked n.asked x.accepted n.accepted in
-      absurd (audited_none files x.asked x.so.notes x.so.text (answers_told NoPlan files told x) (subst (HasFault (Some files)) same n.so))
-  fault_always (Answered Undecided) x files told n =
-      let same = asked-one (requested words) x.asked n.asked x.accepted n.accepted in
-      absurd (audited_undecided files x.asked x.so.notes x.so.text (answers_told Undecided files told x) (subst (HasFault (Some files)) same n.so))
+  fault_always (Answered Done) x files told n = absurd (done_faulty files x.asked x.so.notes x.so.text (here (HasFault (Some files)) Done x n) (answers_told Done files told x))
+  fault_always (Answered NoPlan) x files told n = absurd (searched_bad NoPlan tt x files told n)
+  fault_always (Answered Open) x files told n = absurd (searched_bad Open tt x files told n)
+  fault_always (Answered Undecided) x files told n = absurd (searched_bad Undecided tt x files told n)
   fault_always (Answered Fault) x files told n = inr (inl refl)
   fault_always WrongWords x files told n = absurd (accepted-refused (requested words) n.asked x.0.why n.accepted x.0.refused)
   fault_always ReadFault x files told n = inl refl
@@ -153,9 +157,25 @@ module _ (words : List (List ℕ)) (s s' : ShelfView) (e e' o o' : SinkView) whe
   fault_always WriteFault x files told n = inr (inr (inl refl))
   fault_always NoMemory x files told n = inr (inr (inr refl))
 
+  searched_good : (v : Verdict) → IsSearched v → (x : E (Answered v)) → (files : List MemFile) → s.files ≡ Some files → Asks words (HasNoFault (Some files)) → ⊥
+  searched_good v is x files told n = searched_faultless files x.asked v x.so.notes x.so.text (here (HasNoFault (Some files)) v x n) is (answers_told v files told x)
+
+  pub good_always : (status : Status) → E status → (files : List MemFile) → s.files ≡ Some files → Asks words (HasNoFault (Some files)) → IsOneOf (0 ∷ 3 ∷ 8 ∷ 9 ∷ []) (code_of status)
+  good_always (Answered Done) x files told n = inl refl
+  good_always (Answered NoPlan) x files told n = absurd (searched_good NoPlan tt x files told n)
+  good_always (Answered Open) x files told n = absurd (searched_good Open tt x files told n)
+  good_always (Answered Undecided) x files told n = absurd (searched_good Undecided tt x files told n)
+  good_always (Answered Fault) x files told n = absurd (fault_faultless files x.asked x.so.notes x.so.text (here (HasNoFault (Some files)) Fault x n) (answers_told Fault files told x))
+  good_always WrongWords x files told n = absurd (accepted-refused (requested words) n.asked x.0.why n.accepted x.0.refused)
+  good_always ReadFault x files told n = inr (inl refl)
+  good_always WrongFile x files told n = absurd (not_refused files told x (record { asked = n.asked; accepted = n.accepted; so = faultless (Some files) n.asked n.so }))
+  good_always WriteFault x files told n = inr (inr (inl refl))
+  good_always NoMemory x files told n = inr (inr (inr refl))
+
   pub input_always : (status : Status) → E status → (Asks words (IsUsable s.files) → ⊥) → IsOneOf (2 ∷ 3 ∷ 4 ∷ 8 ∷ 9 ∷ []) (code_of status)
   input_always (Answered Done) x h = absurd (h (record { asked = x.asked; accepted = x.accepted; so = record { inputs = x.so.answers.inputs; usable = x.so.answers.usable } }))
   input_always (Answered NoPlan) x h = absurd (h (record { asked = x.asked; accepted = x.accepted; so = record { inputs = x.so.answers.inputs; usable = x.so.answers.usable } }))
+  input_always (Answered Open) x h = absurd (h (record { asked = x.asked; accepted = x.accepted; so = record { inputs = x.so.answers.inputs; usable = x.so.answers.usable } }))
   input_always (Answered Undecided) x h = absurd (h (record { asked = x.asked; accepted = x.accepted; so = record { inputs = x.so.answers.inputs; usable = x.so.answers.usable } }))
   input_always (Answered Fault) x h = absurd (h (record { asked = x.asked; accepted = x.accepted; so = record { inputs = x.so.answers.inputs; usable = x.so.answers.usable } }))
   input_always WrongWords x h = inl refl
@@ -167,49 +187,44 @@ module _ (words : List (List ℕ)) (s s' : ShelfView) (e e' o o' : SinkView) whe
   pub input_only : (files : List MemFile) → s.files ≡ Some files → E WrongFile → Asks words (IsUsable (Some files)) → ⊥
   input_only files told x u = not_refused files told x u
 
-  -- by the number: the counts of the sinks, and `out`, and the count of the shelf are as before
-  pub err_calm : (n : ℕ) → ((m : ℕ) → n ≡ m → E (status_at m)) → IsOneOf (0 ∷ 1 ∷ 2 ∷ 3 ∷ 4 ∷ 6 ∷ 7 ∷ 9 ∷ []) n → e'.faults ≡ e.faults
-  err_calm n x (inl h) = (x 0 h).so.err.calm
-  err_calm n x (inr (inl h)) = (x 1 h).so.err.calm
-  err_calm n x (inr (inr (inl h))) = (x 2 h).0.err.calm
-  err_calm n x (inr (inr (inr (inl h)))) = (x 3 h).0.so.err.calm
-  err_calm n x (inr (inr (inr (inr (inl h))))) = (x 4 h).0.so.err.calm
-  err_calm n x (inr (inr (inr (inr (inr (inl h)))))) = (x 6 h).so.err.calm
-  err_calm n x (inr (inr (inr (inr (inr (inr (inl h))))))) = (x 7 h).so.err.calm
-  err_calm n x (inr (inr (inr (inr (inr (inr (inr h))))))) = (x 9 h).0.err.calm
+  pub err_calm : (status : Status) → E status → code_of status ≢ 8 → e'.faults ≡ e.faults
+  err_calm (Answered verdict) x h = x.so.err.calm
+  err_calm WrongWords x h = x.0.err.calm
+  err_calm ReadFault x h = x.0.so.err.calm
+  err_calm WrongFile x h = x.0.so.err.calm
+  err_calm WriteFault x h = absurd (h refl)
+  err_calm NoMemory x h = x.0.err.calm
 
+  pub out_calm : (status : Status) → E status → code_of status ≢ 8 → o'.faults ≡ o.faults
+  out_calm (Answered verdict) x h = x.so.out.calm
+  out_calm WrongWords x h = ap (λ (v : SinkView). v.faults) x.1
+  out_calm ReadFault x h = ap (λ (v : SinkView). v.faults) x.1
+  out_calm WrongFile x h = ap (λ (v : SinkView). v.faults) x.1
+  out_calm WriteFault x h = absurd (h refl)
+  out_calm NoMemory x h = ap (λ (v : SinkView). v.faults) x.1
+
+  wanting : IsUntouched s s' ⊎ Asks words (λ a. WantsMemory a s s') → s'.faults ≡ s.faults
+  wanting (inl u) = u.calm
+  wanting (inr a) = wants a.asked a.so
+    where
+      wants : (a : Asked) → WantsMemory a s s' → s'.faults ≡ s.faults
+      wants a (inl u) = u.calm
+      wants a (inr r) = r.read.calm
+
+  pub calm : (status : Status) → E status → code_of status ≢ 3 → code_of status ≢ 8 → s'.faults ≡ s.faults
+  calm (Answered verdict) x h k = x.so.read.calm
+  calm WrongWords x h k = x.0.shelf.calm
+  calm ReadFault x h k = absurd (h refl)
+  calm WrongFile x h k = x.0.so.refused.read.calm
+  calm WriteFault x h k = absurd (k refl)
+  calm NoMemory x h k = wanting x.0.wanting
+
+  -- by the number
   pub silent : (n : ℕ) → ((m : ℕ) → n ≡ m → E (status_at m)) → IsOneOf (2 ∷ 3 ∷ 4 ∷ 9 ∷ []) n → o' ≡ o
   silent n x (inl h) = (x 2 h).1
   silent n x (inr (inl h)) = (x 3 h).1
   silent n x (inr (inr (inl h))) = (x 4 h).1
   silent n x (inr (inr (inr h))) = (x 9 h).1
-
-  pub out_calm : (n : ℕ) → ((m : ℕ) → n ≡ m → E (status_at m)) → IsOneOf (0 ∷ 1 ∷ 2 ∷ 3 ∷ 4 ∷ 6 ∷ 7 ∷ 9 ∷ []) n → o'.faults ≡ o.faults
-  out_calm n x (inl h) = (x 0 h).so.out.calm
-  out_calm n x (inr (inl h)) = (x 1 h).so.out.calm
-  out_calm n x (inr (inr (inl h))) = ap (λ (v : SinkView). v.faults) (silent n x (inl h))
-  out_calm n x (inr (inr (inr (inl h)))) = ap (λ (v : SinkView). v.faults) (silent n x (inr (inl h)))
-  out_calm n x (inr (inr (inr (inr (inl h))))) = ap (λ (v : SinkView). v.faults) (silent n x (inr (inr (inl h))))
-  out_calm n x (inr (inr (inr (inr (inr (inl h)))))) = (x 6 h).so.out.calm
-  out_calm n x (inr (inr (inr (inr (inr (inr (inl h))))))) = (x 7 h).so.out.calm
-  out_calm n x (inr (inr (inr (inr (inr (inr (inr h))))))) = ap (λ (v : SinkView). v.faults) (silent n x (inr (inr (inr h))))
-
-  pub calm : (n : ℕ) → ((m : ℕ) → n ≡ m → E (status_at m)) → IsOneOf (0 ∷ 1 ∷ 2 ∷ 4 ∷ 6 ∷ 7 ∷ 9 ∷ []) n → s'.faults ≡ s.faults
-  calm n x (inl h) = (x 0 h).so.read.calm
-  calm n x (inr (inl h)) = (x 1 h).so.read.calm
-  calm n x (inr (inr (inl h))) = (x 2 h).0.shelf.calm
-  calm n x (inr (inr (inr (inl h)))) = (x 4 h).0.so.refused.read.calm
-  calm n x (inr (inr (inr (inr (inl h))))) = (x 6 h).so.read.calm
-  calm n x (inr (inr (inr (inr (inr (inl h)))))) = (x 7 h).so.read.calm
-  calm n x (inr (inr (inr (inr (inr (inr h)))))) = wanting (x 9 h).0.wanting
-    where
-      wanting : IsUntouched s s' ⊎ Asks words (λ a. WantsMemory a s s') → s'.faults ≡ s.faults
-      wanting (inl u) = u.calm
-      wanting (inr a) = wants a.asked a.so
-        where
-          wants : (a : Asked) → WantsMemory a s s' → s'.faults ≡ s.faults
-          wants a (inl u) = u.calm
-          wants a (inr r) = r.read.calm
 
 -- what was told of a stop
 pub stop_ends : (a : Asked) (s s' : ShelfView) (e e' o : SinkView) (told : Stop) → Explains a s s' told → Wrote (line_of a told) e e' → AskedEnds a s s' e e' o o (status_of told)

@@ -1,5 +1,6 @@
 pub mod Planned
 pub mod Audited
+pub mod Claimed
 pub mod Answered
 pub mod Found
 pub mod Ended

@@ -2,34 +2,22 @@
 -- the run, `e` and `e'` what `err` did, `o` and `o'` what `out` did.
 --
 --   IsMisworded words s s' e e'          status 2: the words are refused, no file was started, and `err` took their line
---   IsAnswered v a s s' e e' o o'        status 0, 1, 6 and 7: `err` took the notes, and `out` the whole text of an answer
+--   IsAnswered v a s s' e e' o o'        status 0, 1, 5, 6 and 7: `err` took the notes, and `out` the whole text of an answer
 --   IsUnreadFile a s s' e e'             status 3: reading failed at this file that the words name, and `err` took its line
 --   IsWrongFile a s s' e e'              status 4: the first file that can't be used is refused, and `err` took its line
---   IsUsable files a                     all files can be used
---   HasNoPlan files a                    they can, and no plan is valid for them
---   IsEnough job e budget, HasEnough files a   the budget is enough to decide the extent; and so for the job of the files
---   HasFault files a                     they can, and the plan that is to be audited isn't valid for them
 --   WordsBroke, ErrBroke, OutBroke       status 8: a sink failed within the line of refused words; within the line of a stop or
 --                                        the notes of an answer; within its text
 --   LineBroke, NotesBroke                the two cases of ErrBroke
 --   IsWanting words s s' e e'            status 9: memory was wanting, and `err` took its line
 --   IsUnwritten words s s' e e' o o'     status 8: the three cases; `out` is written after `err`
 --   Ends words s s' e e' o o' status     what each status says
-use Rattle.std.specs.Prelude.{◌≡◌, ◌⊎◌, ◌≤◌, ℕ, Bool, List, Option, Some, Err}
-use Rattle.plan_text.specs.declared.file.PlanFile.{PlanFile}
-use Rattle.refinement_loop.specs.Decisions.{HasNoWideWalk}
-use Rattle.run_files.specs.Jobs.{IsJobOf}
+use Rattle.std.specs.Prelude.{◌≡◌, ◌⊎◌, ℕ, List, Err}
 use Rattle.seq_io.specs.Taken.{BrokeIn, Wrote}
 use Rattle.seq_io.specs.Views.{ShelfView, SinkView}
-use Rattle.seq_io.specs.declared.mem_file.MemFile.{MemFile}
-use Rattle.seq_model.specs.Budgets.{Full}
-use Rattle.seq_model.specs.Scenes.{Valid}
-use Rattle.seq_model.specs.declared.job.Job.{Job}
-use Rattle.seq_model.specs.declared.plan.Plan.{Plan}
 use Rattle.seq_words.specs.declared.command.Words.TheVariants.{NoMemory}
-use Rattle.run_files.specs.Files.{AreUsable, Inputs, name_in}
+use Rattle.run_files.specs.Files.{name_in}
 use Rattle.run_lines.specs.Messages.{words_line, read_line, input_line, line_of, memory_line}
-use Rattle.seq_run.specs.Printed.{Answers, IsGoodPlan, scene_of}
+use Rattle.seq_run.specs.Printed.{Answers}
 use Rattle.run_files.specs.Stops.{Explains, FailedAt, IsUntouched, ReadUpTo, RefusedAt, WantsMemory, last_of}
 use Rattle.run_files.specs.Words.{Asks, requested}
 use Rattle.seq_run.specs.declared.status.Status.{Status}
@@ -41,7 +29,6 @@ use Rattle.run_files.specs.declared.stop.Stop.{Stop}
 use Rattle.run_files.specs.declared.words.Asked.{Asked}
 use Rattle.run_files.specs.declared.words.Misworded.{Misworded}
 use Rattle.run_files.specs.declared.words.Misworded.TheVariants.{Refused}
-use Rattle.run_files.specs.declared.words.Task.TheVariants.{Arrange, Audit}
 
 pub record IsMisworded (words : List (List ℕ)) (s s' : ShelfView) (e e' : SinkView) : Type 0 where
   pub why : Misworded
@@ -71,44 +58,6 @@ pub record IsWrongFile (a : Asked) (s s' : ShelfView) (e e' : SinkView) : Type 0
 pub record IsWanting (words : List (List ℕ)) (s s' : ShelfView) (e e' : SinkView) : Type 0 where
   pub wanting : IsUntouched s s' ⊎ Asks words (λ a. WantsMemory a s s')
   pub err : Wrote memory_line e e'
-
-pub record IsUsable (files : Option (List MemFile)) (a : Asked) : Type 0 where
-  pub inputs : Inputs
-  pub usable : AreUsable files a inputs
-
--- the files can be used, and no plan is valid for them, on the whole plate or at a smaller extent
-pub record HasNoPlan (files : Option (List MemFile)) (a : Asked) : Type 0 where
-  pub strict : Bool
-  pub budget : ℕ
-  pub arranges : a.task ≡ Arrange strict budget
-  pub inputs : Inputs
-  pub usable : AreUsable files a inputs
-  pub none : (e : ℕ) (plan : Plan) → Valid (scene_of inputs) e plan → ⊥
-
--- the budget is at least that which is always enough, and no walk of a path of the job ends wide
-pub record IsEnough (job : Job) (e budget : ℕ) : Type 0 where
-  pub full : ℕ
-  pub is_full : Full job full
-  pub within : full ≤ budget
-  pub narrow : HasNoWideWalk job e
-
--- the files can be used, and the budget is enough for their job
-pub record HasEnough (files : Option (List MemFile)) (a : Asked) : Type 0 where
-  pub strict : Bool
-  pub budget : ℕ
-  pub arranges : a.task ≡ Arrange strict budget
-  pub inputs : Inputs
-  pub usable : AreUsable files a inputs
-  pub enough : (job : Job) → IsJobOf inputs.description inputs.meshes job → IsEnough job inputs.description.grid budget
-
--- the files can be used, and the plan among them, that is to be audited, isn't valid on the whole plate
-pub record HasFault (files : Option (List MemFile)) (a : Asked) : Type 0 where
-  pub audits : a.task ≡ Audit
-  pub inputs : Inputs
-  pub usable : AreUsable files a inputs
-  pub file : PlanFile
-  pub named : inputs.plan ≡ Some file
-  pub not_good : IsGoodPlan inputs file → ⊥
 
 pub record WordsBroke (words : List (List ℕ)) (s s' : ShelfView) (e e' : SinkView) : Type 0 where
   pub why : Misworded

@@ -1,10 +1,11 @@
-ghost use Rattle.std.specs.Prelude.{◌≡◌, ◌∷◌, [], List, Some, IsErr, IfOk, IfErr, OnOk};
+ghost use Rattle.std.specs.Prelude.{◌≡◌, ◌≢◌, ◌≤◌, ◌∷◌, [], List, Some, IsErr, IfOk, IfErr, OnOk};
 ghost use Rattle.run_files.specs.Stops.{Explains, ReadUpTo, last_of};
 ghost use Rattle.run_files.specs.Words.{Asks, IsRequest, requested};
 ghost use Rattle.seq_io.specs.declared.mem_file.MemFile.{MemFile};
 ghost use Rattle.seq_run.specs.Planning.{CanWorkOn, PrintsFor};
+ghost use Rattle.seq_run.specs.Premises.{HasEnough, HasFault, HasNoFault, HasNoPlan, IsUsable};
 ghost use Rattle.seq_run.specs.Printed.{Answers};
-ghost use Rattle.seq_run.specs.Runs.{AskedEnds, Ends, HasEnough, HasFault, HasNoPlan, IsAnswered, IsMisworded, IsUnreadFile, IsUnwritten, IsUsable, IsWanting, IsWrongFile, RefusalEnds};
+ghost use Rattle.seq_run.specs.Runs.{AskedEnds, Ends, IsAnswered, IsMisworded, IsUnreadFile, IsUnwritten, IsWanting, IsWrongFile, RefusalEnds};
 ghost use Rattle.seq_run.specs.Statuses.{IsOneOf};
 ghost use Rattle.seq_run.specs.declared.status.Verdict.{Verdict};
 ghost use Rattle.seq_words.specs.Usages.{texts};
@@ -116,15 +117,18 @@ pub fn run<S: Shelf, O: Sink, E: Sink>(
     out: &mut O,
     err: &mut E,
 ) -> u8
-    ensures statuses { IsOneOf (0 ∷ 1 ∷ 2 ∷ 3 ∷ 4 ∷ 6 ∷ 7 ∷ 8 ∷ 9 ∷ []) result }
+    ensures statuses { result ≤ 9 }
 
-    // 0: `err` took the notes, and then `out` the whole text of a plan that is valid on the plate, of the object's bands, or
-    // that the plan that was given is valid.
+    // 0: `err` took the notes, and then `out` the whole text: of a plan that is valid on the plate; of a plan at the least extent, with
+    // the certificate for the one below; of the object's bands; or that the plan that was given is valid, or its claim passes.
     ensures found { result ≡ 0 → Asks (texts words.now.items) (λ a. IsAnswered Verdict.Done a
         (S.shows shelf.old) (S.shows shelf.new)
         (E.shows err.old) (E.shows err.new) (O.shows out.old) (O.shows out.new)) }
+    ensures good_always { (files : List MemFile) → (S.shows shelf.old).files ≡ Some files
+        → Asks (texts words.now.items) (HasNoFault (Some files))
+        → IsOneOf (0 ∷ 3 ∷ 8 ∷ 9 ∷ []) result }
 
-    // 1: only where no plan is valid; `err` took the notes, and then `out` the text that says so, with a certificate.
+    // 1: only where no plan is valid; `err` took the notes, and then `out` the text that says so, with a certificate that passes.
     ensures none { result ≡ 1 → Asks (texts words.now.items) (λ a. IsAnswered Verdict.NoPlan a
         (S.shows shelf.old) (S.shows shelf.new)
         (E.shows err.old) (E.shows err.new) (O.shows out.old) (O.shows out.new)) }
@@ -132,7 +136,12 @@ pub fn run<S: Shelf, O: Sink, E: Sink>(
         → Asks (texts words.now.items) (HasNoPlan (Some files))
         → IsOneOf (1 ∷ 3 ∷ 6 ∷ 8 ∷ 9 ∷ []) result }
 
-    // 6: the search was left undecided; `out` took the tree that shows why. With a budget that is enough it isn't.
+    // 5: a plan that is valid at its extent was found, and the extent below left undecided; `out` took the tree that shows why.
+    ensures still_open { result ≡ 5 → Asks (texts words.now.items) (λ a. IsAnswered Verdict.Open a
+        (S.shows shelf.old) (S.shows shelf.new)
+        (E.shows err.old) (E.shows err.new) (O.shows out.old) (O.shows out.new)) }
+
+    // 6: the whole plate was left undecided; `out` took the tree that shows why. With a budget that is enough neither 5 nor 6 comes.
     ensures undecided { result ≡ 6
         → Asks (texts words.now.items) (λ a. IsAnswered Verdict.Undecided a
         (S.shows shelf.old) (S.shows shelf.new)
@@ -141,7 +150,8 @@ pub fn run<S: Shelf, O: Sink, E: Sink>(
         → Asks (texts words.now.items) (HasEnough (Some files))
         → IsOneOf (0 ∷ 1 ∷ 3 ∷ 8 ∷ 9 ∷ []) result }
 
-    // 7: exactly where the plan that is to be audited isn't valid; `out` took its first fault.
+    // 7: exactly where the plan that is to be audited isn't valid, or the claim that is to be checked doesn't pass; `out` took its
+    // first fault.
     ensures fault { result ≡ 7 → Asks (texts words.now.items) (λ a. IsAnswered Verdict.Fault a
         (S.shows shelf.old) (S.shows shelf.new)
         (E.shows err.old) (E.shows err.new) (O.shows out.old) (O.shows out.new)) }
@@ -172,17 +182,15 @@ pub fn run<S: Shelf, O: Sink, E: Sink>(
     ensures write { result ≡ 8 → IsUnwritten (texts words.now.items)
         (S.shows shelf.old) (S.shows shelf.new)
         (E.shows err.old) (E.shows err.new) (O.shows out.old) (O.shows out.new) }
-    ensures err_calm { IsOneOf (0 ∷ 1 ∷ 2 ∷ 3 ∷ 4 ∷ 6 ∷ 7 ∷ 9 ∷ []) result
-        → (E.shows err.new).faults ≡ (E.shows err.old).faults }
-    ensures out_calm { IsOneOf (0 ∷ 1 ∷ 2 ∷ 3 ∷ 4 ∷ 6 ∷ 7 ∷ 9 ∷ []) result
-        → (O.shows out.new).faults ≡ (O.shows out.old).faults }
+    ensures err_calm { result ≢ 8 → (E.shows err.new).faults ≡ (E.shows err.old).faults }
+    ensures out_calm { result ≢ 8 → (O.shows out.new).faults ≡ (O.shows out.old).faults }
 
     // 9: want of memory.
     ensures memory { result ≡ 9 → IsWanting (texts words.now.items)
         (S.shows shelf.old) (S.shows shelf.new) (E.shows err.old) (E.shows err.new) }
 
     ensures silent { IsOneOf (2 ∷ 3 ∷ 4 ∷ 9 ∷ []) result → O.shows out.new ≡ O.shows out.old }
-    ensures calm { IsOneOf (0 ∷ 1 ∷ 2 ∷ 4 ∷ 6 ∷ 7 ∷ 9 ∷ []) result
+    ensures calm { result ≢ 3 → result ≢ 8
         → (S.shows shelf.new).faults ≡ (S.shows shelf.old).faults }
 {
     code_of(end(alloc, words, shelf, out, err))
