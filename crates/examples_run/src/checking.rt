@@ -143,7 +143,15 @@ fn a_claim_passes_or_its_first_fault_is_told(rt: HostRuntime) -> Result<(), Fail
     for (printer, plan, words, status, text, line) in &CHECKED {
         let plan = Vec::from_slice(rt.alloc(), plan)?;
         let seen = (*status, *text, *line);
-        see_plan(&rt, rt.alloc(), printer, plan, &Mesh::Block(20), words, seen)?;
+        see_plan(
+            &rt,
+            rt.alloc(),
+            printer,
+            plan,
+            &Mesh::Block(20),
+            words,
+            seen,
+        )?;
     }
     Ok(())
 }

@@ -9,7 +9,8 @@ use std::test::Fail;
 #[test]
 fn one_cube_needs_22(rt: HostRuntime) -> Result<(), Fail> {
     let words = ["arrange", "--least", "p0.toml", "a.stl"];
-    let text = b"seqplan 1\nstate least\ngrid 100\nextent 22\nscale 1\nplace 0 40 40\ncertificate 1\nexcludes 21\nbound 0:1\n";
+    let text =
+        b"seqplan 1\nstate least\ngrid 100\nextent 22\nscale 1\nplace 0 40 40\ncertificate 1\nexcludes 21\nbound 0:1\n";
     let seen = (0, text.as_slice(), b"".as_slice());
     see(&rt, rt.alloc(), WITH_PARTS, &Mesh::Block(20), &words, seen)
 }
@@ -22,13 +23,9 @@ const WITH_TALL: &[&str] = &["arrange", "--least", "p0.toml", "a.stl", "tall.stl
 
 const CHECK_TALL: &[&str] = &["check", "p0.toml", "plan.txt", "a.stl", "tall.stl"];
 
-const THREE: &[&str] = &[
-    "arrange", "--least", "p0.toml", "a.stl", "a.stl", "a.stl",
-];
+const THREE: &[&str] = &["arrange", "--least", "p0.toml", "a.stl", "a.stl", "a.stl"];
 
-const CHECK_THREE: &[&str] = &[
-    "check", "p0.toml", "plan.txt", "a.stl", "a.stl", "a.stl",
-];
+const CHECK_THREE: &[&str] = &["check", "p0.toml", "plan.txt", "a.stl", "a.stl", "a.stl"];
 
 const WHOLE: &[&str] = &["arrange", "p0.toml", "a.stl", "a.stl"];
 
@@ -82,8 +79,24 @@ static CLAIMED: [(&[u8], Mesh, &[&str], u8, &[u8], &[&str], &[u8]); 7] = [
         CHECK_THREE,
         b"check passes 45\n",
     ),
-    (SMALL, Mesh::Block(20), TWO, 1, NONE, CHECK_TWO, b"check passes 100\n"),
-    (SMALL, Mesh::Block(20), WHOLE, 1, NONE, CHECK_TWO, b"check passes 100\n"),
+    (
+        SMALL,
+        Mesh::Block(20),
+        TWO,
+        1,
+        NONE,
+        CHECK_TWO,
+        b"check passes 100\n",
+    ),
+    (
+        SMALL,
+        Mesh::Block(20),
+        WHOLE,
+        1,
+        NONE,
+        CHECK_TWO,
+        b"check passes 100\n",
+    ),
 ];
 
 // Sees how the text of the words begins, and gives it.
@@ -96,7 +109,10 @@ fn text_of(
     begin: (u8, &[u8]),
 ) -> Result<Vec<u8>, Fail> {
     let done = outcome_of(alloc, printer, file_of(alloc, mesh)?, words)?;
-    assert_eq!(rt; (done.status, done.out.taken().starts_with(begin.1)), (begin.0, true));
+    assert_eq!(rt;
+        (done.status, done.out.taken().starts_with(begin.1)),
+        (begin.0, true)
+    );
     Ok(Vec::from_slice(alloc, done.out.taken())?)
 }
 

@@ -62,7 +62,7 @@ pub only_stated : (task : Task) (bytes : List ℕ) (file : PlanFile) (place : �
 only_stated task bytes file place block one is = λ other s.
     (let same = one.same other.file s.place s.is in
     let there : IsBlockOf (reads_block task file) (drop place bytes) other.block =
-        subst (λ k. IsBlockOf (reads_block task file) (drop k bytes) other.block) same.1 (subst (λ (f : PlanFile). IsBlockOf (reads_block task f) (drop s.place bytes) other.block) same.0 s.behind) in
+    subst (λ k. IsBlockOf (reads_block task file) (drop k bytes) other.block) same.1 (subst (λ (f : PlanFile). IsBlockOf (reads_block task f) (drop s.place bytes) other.block) same.0 s.behind) in
     made other.file file other.block block same.0 (block_of-one (reads_block task file) (drop place bytes) other.block block there is))
   where
     made : (f g : PlanFile) (b d : Option (Head × Tree)) → f ≡ g → b ≡ d → plan_with f b ≡ plan_with g d
@@ -72,7 +72,7 @@ pub no_block : (task : Task) (bytes : List ℕ) (e : CertRead) (r : HasNoBlock t
 no_block task bytes e r one plan s =
     let same = one.same plan.file s.place s.is in
     let there : IsBlockOf (reads_block task r.file) (drop r.place bytes) plan.block =
-        subst (λ k. IsBlockOf (reads_block task r.file) (drop k bytes) plan.block) same.1 (subst (λ (f : PlanFile). IsBlockOf (reads_block task f) (drop s.place bytes) plan.block) same.0 s.behind) in
+    subst (λ k. IsBlockOf (reads_block task r.file) (drop k bytes) plan.block) same.1 (subst (λ (f : PlanFile). IsBlockOf (reads_block task f) (drop s.place bytes) plan.block) same.0 s.behind) in
     block_of-refused (reads_block task r.file) (drop r.place bytes) plan.block e r.due there r.refused
 
 -- ---- of the file that is named

@@ -88,11 +88,7 @@ fn plan_of(alloc: Global, task: Task, bytes: &[u8]) -> Result<GivenPlan, Unfit>
 }
 
 // The plan that a word names, where it is the next file in word order.
-fn load_named_plan<S: Shelf>(
-    alloc: Global,
-    asked: &Asked,
-    shelf: &mut S,
-) -> Result<GivenPlan, Stop>
+fn load_named_plan<S: Shelf>(alloc: Global, asked: &Asked, shelf: &mut S) -> Result<GivenPlan, Stop>
     ensures is { IfOk result (StatesPlan
         (S.shows shelf.old).files asked.now.task (name_in asked.now NamedFile.Plan)) }
     ensures only { IfOk result (λ plan. (told : List MemFile) (other : GivenPlan)

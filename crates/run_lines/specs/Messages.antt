@@ -34,21 +34,18 @@ use Rattle.run_files.specs.declared.stop.NamedFile.TheVariants.{Printer, Plan, M
 use Rattle.run_files.specs.declared.stop.Stop.{Stop}
 use Rattle.run_files.specs.declared.stop.Stop.TheVariants.{Read, Input, Memory}
 use Rattle.run_files.specs.declared.words.Asked.{Asked}
-use Rattle.run_files.specs.declared.words.Misworded.{Misworded}
-use Rattle.run_files.specs.declared.words.Misworded.TheVariants.{Refused, NotBuilt}
 
 abbrev pub memory_line : List ℕ
 memory_line = codes "memory\n"
 
-abbrev pub words_line : Misworded → List ℕ
-words_line (Refused Words.Unknown) = codes "words: unknown command\n"
-words_line (Refused Words.Usage) = codes "words: usage\n"
-words_line (Refused (Words.BadNumber Opt.Budget)) = codes "words: bad number for --budget\n"
-words_line (Refused (Words.BadNumber Opt.K)) = codes "words: bad number for K\n"
-words_line (Refused (Words.BadNumber Opt.N)) = codes "words: bad number for N\n"
-words_line (Refused Words.TooMany) = codes "words: more than 16 meshes\n"
-words_line (Refused Words.NoMemory) = memory_line
-words_line NotBuilt = codes "words: not yet\n"
+abbrev pub words_line : Words → List ℕ
+words_line Words.Unknown = codes "words: unknown command\n"
+words_line Words.Usage = codes "words: usage\n"
+words_line (Words.BadNumber Opt.Budget) = codes "words: bad number for --budget\n"
+words_line (Words.BadNumber Opt.K) = codes "words: bad number for K\n"
+words_line (Words.BadNumber Opt.N) = codes "words: bad number for N\n"
+words_line Words.TooMany = codes "words: more than 16 meshes\n"
+words_line Words.NoMemory = memory_line
 
 -- why a word is no length
 abbrev pub decimal_text : Decimal → List ℕ

@@ -8,7 +8,7 @@ use decimal_lengths::Decimal;
 use mesh_notes::put_looks;
 use plan_text::PlanRead;
 use printer_text::{Prn, key_text as spelled};
-use run_files::{Cause, Misworded, NamedFile};
+use run_files::{Cause, NamedFile};
 use seq_model::What;
 use seq_words::{Opt, Words};
 use std::alloc::{AllocError, Global};
@@ -16,18 +16,17 @@ use stl_text::{Stl, text_of};
 use text_lines::put_number;
 
 /// The line of refused words.
-pub fn words_line(why: Misworded) -> &'static [u8]
+pub fn words_line(why: Words) -> &'static [u8]
     ensures { result.now ≡ words_line why }
 {
     match why {
-        Misworded::Refused(Words::Unknown) => b"words: unknown command\n",
-        Misworded::Refused(Words::Usage) => b"words: usage\n",
-        Misworded::Refused(Words::BadNumber(Opt::Budget)) => b"words: bad number for --budget\n",
-        Misworded::Refused(Words::BadNumber(Opt::K)) => b"words: bad number for K\n",
-        Misworded::Refused(Words::BadNumber(Opt::N)) => b"words: bad number for N\n",
-        Misworded::Refused(Words::TooMany) => b"words: more than 16 meshes\n",
-        Misworded::Refused(Words::NoMemory) => b"memory\n",
-        Misworded::NotBuilt => b"words: not yet\n",
+        Words::Unknown => b"words: unknown command\n",
+        Words::Usage => b"words: usage\n",
+        Words::BadNumber(Opt::Budget) => b"words: bad number for --budget\n",
+        Words::BadNumber(Opt::K) => b"words: bad number for K\n",
+        Words::BadNumber(Opt::N) => b"words: bad number for N\n",
+        Words::TooMany => b"words: more than 16 meshes\n",
+        Words::NoMemory => b"memory\n",
     }
 }
 

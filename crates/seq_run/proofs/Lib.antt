@@ -4,4 +4,5 @@ pub mod Claimed
 pub mod Answered
 pub mod Found
 pub mod Ended
+pub mod Trying
 pub mod Pieces

@@ -1,6 +1,8 @@
 -- What may hold of the files that the words name, from which the status of a run follows.
 --
 --   IsUsable files a          all files can be used
+--   IsUnusable files a        they can't all be used
+--   AsksTrial words           the words ask for a trial
 --   Arranges task             a plan is sought
 --   HasNoPlan files a         the files can be used, a plan is sought, and none is valid for them
 --   IsEnough job b IsSought   the budget b is enough for each extent that is sought
@@ -15,6 +17,7 @@ use Rattle.claim_checker.specs.declared.verdict.Fault.{Fault}
 use Rattle.refinement_loop.specs.Decisions.{HasNoWideWalk}
 use Rattle.run_files.specs.Files.{AreUsable, Inputs}
 use Rattle.run_files.specs.Jobs.{IsJobOf}
+use Rattle.run_files.specs.Words.{Tries}
 use Rattle.run_files.specs.declared.plans.GivenPlan.{GivenPlan}
 use Rattle.run_files.specs.declared.words.Asked.{Asked}
 use Rattle.run_files.specs.declared.words.Task.{Task}
@@ -29,6 +32,12 @@ use Rattle.seq_run.specs.Judged.{IsGoodPlan, IsJudgedAs, scene_of}
 pub record IsUsable (files : Option (List MemFile)) (a : Asked) : Type 0 where
   pub inputs : Inputs
   pub usable : AreUsable files a inputs
+
+abbrev pub IsUnusable : Option (List MemFile) → Asked → Type 0
+IsUnusable files a = IsUsable files a → ⊥
+
+abbrev pub AsksTrial : List (List ℕ) → Type 0
+AsksTrial words = Tries words (λ objects seed. Unit {0})
 
 -- ---- plans that are sought
 abbrev pub Arranges : Task → Type 0

@@ -1,8 +1,9 @@
-ghost use Rattle.std.specs.Prelude.{◌≡◌, ◌≤◌, Option, Some, length, IfOk};
+ghost use Rattle.std.specs.Prelude.{◌≡◌, ◌≤◌, ◌<◌, ◌^◌, Option, Some, length, IfOk};
 ghost use Rattle.plan_text.specs.PlanText.{IsPlanFile};
 ghost use Rattle.run_files.specs.declared.plans.GivenPlan.{GivenPlan};
 ghost use Rattle.run_files.specs.declared.words.Task.{Task};
 ghost use Rattle.seq_run.specs.Planning.{CanBeJudged, CanWorkOn, PrintsFor, verdict_of_audit, verdict_of_claim, verdict_of_decision, verdict_of_outcome};
+ghost use Rattle.seq_run.specs.Tried.{PrintsTrial};
 
 use crate::Verdict;
 use audit_text::audit_text;
@@ -18,6 +19,7 @@ use seq_model::Job;
 use seq_num::NoMemory;
 use slice_text::slices_text;
 use std::alloc::Global;
+use trial_job::{summary_text, trial_job};
 
 /// What goes to `out`, and its verdict.
 #[derive(Debug, Drop)]
@@ -142,6 +144,23 @@ fn check_plan(alloc: Global, job: &Job, plan: &GivenPlan) -> Result<Printed, NoM
     let text = check_text(alloc, judged)?;
     Ok(Printed {
         verdict: verdict_of_claim(judged),
+        text: Items::from_vec(text),
+    })
+}
+
+/// The summary of a trial, and then what `arrange` prints of its job.
+pub fn try_out(alloc: Global, objects: u32, seed: u64) -> Result<Printed, NoMemory>
+    requires some { 1 ≤ objects }
+    requires few { objects ≤ 16 }
+    requires seed { seed < 2 ^ 32 }
+    ensures { IfOk result (λ p. PrintsTrial objects seed p.verdict p.text) }
+{
+    let trial = trial_job(alloc, objects, seed)?;
+    let arranged = arrange(alloc, false, 20_000, &trial.job)?;
+    let mut text = summary_text(alloc, objects, seed, &trial)?;
+    text.extend_from_slice(arranged.text.as_slice())?;
+    Ok(Printed {
+        verdict: arranged.verdict,
         text: Items::from_vec(text),
     })
 }

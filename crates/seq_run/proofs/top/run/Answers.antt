@@ -2,7 +2,7 @@ use Rattle.std.proofs.Common.{◌≡◌, ◌≤◌, ℕ, ◌∷◌, [], sym, ◌
 use Rattle.seq_io.specs.Views.{ShelfView, SinkView}
 use Rattle.seq_words.specs.Usages.{texts}
 use Rattle.seq_run.specs.Statuses.{IsOneOf}
-use Rattle.seq_run.proofs.Ended.{E, at_number, calm, decided_always, ends_once, err_calm, fault_always, good_always, input_always, input_only, none_always, out_calm, silent, status_at, words_always}
+use Rattle.seq_run.proofs.Ended.{E, at_number, calm, decided_always, ends_once, err_calm, fault_always, good_always, input_always, input_only, none_always, out_calm, silent, status_at, trial_always, words_always}
 use Rattle.seq_run.proofs.top.run.Goals as goal
 
 pub returns : goal.returns
@@ -34,7 +34,8 @@ returns g c =
       words_always = λ h. subst (IsOneOf (2 ∷ 8 ∷ 9 ∷ [])) (sym code) (words_always words s s' e e' o o' status ends h);
       read = λ is. (by 3 is).0;
       input = λ is. (by 4 is).0;
-      input_always = λ h. subst (IsOneOf (2 ∷ 3 ∷ 4 ∷ 8 ∷ 9 ∷ [])) (sym code) (input_always words s s' e e' o o' status ends h);
+      trial = λ h. subst (IsOneOf (0 ∷ 1 ∷ 6 ∷ 8 ∷ 9 ∷ [])) (sym code) (trial_always words s s' e e' o o' status ends h);
+      input_always = λ h. subst (IsOneOf (3 ∷ 4 ∷ 8 ∷ 9 ∷ [])) (sym code) (input_always words s s' e e' o o' status ends h);
       input_only = λ files told is asks. input_only words s s' e e' o o' files told (by 4 is) asks;
       write = λ is. by 8 is;
       err_calm = λ not. err_calm words s s' e e' o o' status ends (λ is. not (code ∙ is));

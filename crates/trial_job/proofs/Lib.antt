@@ -1,0 +1,2 @@
+mod Makings
+mod ZoneCounts
