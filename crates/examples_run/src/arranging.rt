@@ -236,7 +236,7 @@ static RUNS: [(&[&str], &[u64], u8, &[u8]); 24] = [
     (&["audit", "p0.toml", "q", "r"], &[], 3, b"read: q\n"),
     (&["audit", "p0.toml", "q"], &[], 2, b"words: usage\n"),
     (&["slices", "p0.toml", "b.stl"], &[], 3, b"read: b.stl\n"),
-    (&["trial", "1", "0"], &[], 2, b"words: not yet\n"),
+    (&["trial", "1"], &[], 2, b"words: usage\n"),
     (&["arrange", "--least", "p", "q"], &[], 3, b"read: p\n"),
     (&["arrange", "p", "q", "q"], &[], 3, b"read: p\n"),
     (&["arrange", "p1.toml", "a.stl"], &[], 3, b"read: p1.toml\n"),

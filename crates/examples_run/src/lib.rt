@@ -23,3 +23,5 @@ mod runs;
 mod several;
 #[cfg(test)]
 mod slicing;
+#[cfg(test)]
+mod trials;
