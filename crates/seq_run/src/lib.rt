@@ -1,6 +1,6 @@
 //! The top call: words, a shelf of files and two sinks in; a printed text and a status out.
 //!
-//! `run` does all that the program does. It answers `arrange`, `check`, `audit` and `slices`. Its contract is the promise of the program,
+//! `run` does all that the program does. It answers all five commands. Its contract is the promise of the program,
 //! by status:
 //!
 //! - 0: the text that `out` took is the whole text of a plan that is valid on the plate, for the scene that the bytes of the files
