@@ -51,7 +51,7 @@ excluded_within States.UndecidedBudget grid extent within = omega arith
 excluded_within States.UndecidedWide grid extent within = omega arith
 
 shown_by : (job : Job) (file : PlanFile) (x : ℕ) → IsPlanFile file → file.grid ≡ job.printer.grid → HasPlanAsSaid job file → x ≡ excluded_by file
-    → IsRefuted job (excluded_by file) → Shows job file x
+    → IsRefuted job (excluded_by file) → Shows (scene_of_job job) file x
 shown_by job file x spelt grid plan number refuted = record {
   number = number;
   none_below = below;
@@ -75,7 +75,7 @@ shown_by job file x spelt grid plan number refuted = record {
     below : (e : ℕ) (q : Plan) → e ≤ x → Valid (scene_of_job job) e q → ⊥
     below e q l valid = none_below job (excluded_by file) within refuted e q (omega (arith, l, number)) valid
 
-shown_pass : (job : Job) (file : PlanFile) (block : Option (Head × Tree)) (x : ℕ) → IsPlanFile file → IsClaim job file block (Claims.Passes x) → Shows job file x
+shown_pass : (job : Job) (file : PlanFile) (block : Option (Head × Tree)) (x : ℕ) → IsPlanFile file → IsClaim job file block (Claims.Passes x) → Shows (scene_of_job job) file x
 shown_pass job file block x spelt (inl bad) = absurd (cc (bad.0))
 shown_pass job file block x spelt (inr (state, inl bad)) = absurd (cc (bad.0))
 shown_pass job file block x spelt (inr (state, inr (grid, inl bad))) = absurd (cc (bad.0))
@@ -84,5 +84,5 @@ shown_pass job file block x spelt (inr (state, inr (grid, inr (plan, is)))) =
     shown_by job file x spelt grid plan r.0 r.1
 
 pub shown : (job : Job) (file : PlanFile) (block : Option (Head × Tree)) (claim : Claim) (x : ℕ) → IsPlanFile file → IsClaim job file block claim → claim ≡ Claims.Passes x
-    → Shows job file x
+    → Shows (scene_of_job job) file x
 shown job file block claim x spelt is same = shown_pass job file block x spelt (subst (IsClaim job file block) same is)

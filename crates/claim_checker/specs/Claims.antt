@@ -8,8 +8,9 @@
 --   IsTreeClaim job e tree c   the tree refutes the extent, or its first node that breaks a rule is answered
 --   IsBlockClaim job e block c where an extent is excluded: the block's own number is it, and then what is said of its tree
 --   IsClaim job file block c   the judgement: the first of these that doesn't hold, in this order; or that the claim passes
---   Shows job file x           what a claim that passes with the number x shows: no plan is valid at x nor below; for a least extent its plan
---                              is valid there, and it is the least; where no plan is claimed there is none at any extent
+--   Shows scene file x         what a claim that passes with the number x shows of the scene of its job: no plan is valid at x nor below;
+--                              for a least extent its plan is valid there, and it is the least; where no plan is claimed there is none
+--                              at any extent
 use Rattle.std.specs.Prelude.{◌≡◌, ◌⊎◌, ℕ, zero, suc, ◌-◌, ◌≤◌, All, Option, Some, None}
 use Rattle.cert_checker.specs.Rules.{IsFirstBroken}
 use Rattle.cert_text.specs.TreeText.{IsSpelt}
@@ -22,7 +23,7 @@ use Rattle.plan_text.specs.declared.file.PlanFile.{PlanFile}
 use Rattle.plan_text.specs.declared.file.State.{State}
 use Rattle.plan_text.specs.declared.file.State.TheVariants as States
 use Rattle.seq_model.specs.Jobs.{scene_of_job}
-use Rattle.seq_model.specs.Scenes.{Least, Valid}
+use Rattle.seq_model.specs.Scenes.{Least, Scene, Valid}
 use Rattle.seq_model.specs.Trees.{IsWhole, TreeRefutes}
 use Rattle.seq_model.specs.declared.job.Job.{Job}
 use Rattle.seq_model.specs.declared.plan.Plan.{Plan}
@@ -84,9 +85,9 @@ IsClaim job file block claim =
     (unless (HasPlanAsSaid job file) Faults.Plan claim
     (IsBlockClaim job (excluded_by file) block claim)))
 
-pub record Shows (job : Job) (file : PlanFile) (x : ℕ) : Type 0 where
+pub record Shows (scene : Scene) (file : PlanFile) (x : ℕ) : Type 0 where
   pub number : x ≡ excluded_by file
-  pub none_below : (e : ℕ) (plan : Plan) → e ≤ x → Valid (scene_of_job job) e plan → ⊥
-  pub plan : file.state ≡ States.Least → Valid (scene_of_job job) file.extent file.plan
-  pub least : file.state ≡ States.Least → Least (scene_of_job job) file.extent
-  pub none : file.state ≡ States.NoPlan → (e : ℕ) (plan : Plan) → Valid (scene_of_job job) e plan → ⊥
+  pub none_below : (e : ℕ) (plan : Plan) → e ≤ x → Valid scene e plan → ⊥
+  pub plan : file.state ≡ States.Least → Valid scene file.extent file.plan
+  pub least : file.state ≡ States.Least → Least scene file.extent
+  pub none : file.state ≡ States.NoPlan → (e : ℕ) (plan : Plan) → Valid scene e plan → ⊥

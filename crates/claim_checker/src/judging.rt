@@ -2,6 +2,7 @@ ghost use Rattle.std.specs.Prelude.{◌≡◌, ◌↔◌, ◌≤◌, ℕ, true, 
 ghost use Rattle.claim_checker.specs.Claims.{CanBeChecked, HasBlock, HasPlanAsSaid, IsBlockClaim, IsClaim, IsReadTree, IsTreeClaim, Shows, excluded_by};
 ghost use Rattle.claim_checker.specs.declared.verdict.Claim.{Claim};
 ghost use Rattle.plan_text.specs.PlanText.{IsPlanFile};
+ghost use Rattle.seq_model.specs.Jobs.{scene_of_job};
 
 use crate::{Claim, Fault};
 use cert_checker::{Checked, check};
@@ -97,7 +98,8 @@ pub fn claim(
     ensures is { IfOk result (IsClaim job.now file.now block.now) }
     ensures only { IfOk result (λ c. (other : Claim) → IsClaim job.now file.now block.now other
         → c ≡ other) }
-    ensures sound { IfOk result (λ c. (x : ℕ) → c ≡ Claim.Passes x → Shows job.now file.now x) }
+    ensures sound { IfOk result (λ c. (x : ℕ) → c ≡ Claim.Passes x
+        → Shows (scene_of_job job.now) file.now x) }
 {
     if !can_be_checked(file.state) {
         return Ok(Claim::Fails(Fault::State));

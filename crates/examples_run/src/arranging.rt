@@ -187,7 +187,7 @@ fn a_mesh_past_64_mib_is_too_long(rt: HostRuntime) -> Result<(), Fail> {
 const NO_MESH: &[&str] = &["arrange", "p0.toml"];
 
 // Words, calls of the shelf that fail, the status and the line on `err`.
-static RUNS: [(&[&str], &[u64], u8, &[u8]); 23] = [
+static RUNS: [(&[&str], &[u64], u8, &[u8]); 24] = [
     (&[], &[], 2, b"words: unknown command\n"),
     (
         &["arange", "p0.toml", "a.stl"],
@@ -230,18 +230,14 @@ static RUNS: [(&[&str], &[u64], u8, &[u8]); 23] = [
         2,
         b"words: more than 16 meshes\n",
     ),
-    (&["check", "p", "q", "r"], &[], 2, b"words: not yet\n"),
+    (&["check", "p", "q", "r"], &[], 3, b"read: p\n"),
+    (&["check", "p0.toml", "q", "r"], &[], 3, b"read: q\n"),
     (&["audit", "p", "q", "r"], &[], 3, b"read: p\n"),
     (&["audit", "p0.toml", "q", "r"], &[], 3, b"read: q\n"),
     (&["audit", "p0.toml", "q"], &[], 2, b"words: usage\n"),
     (&["slices", "p0.toml", "b.stl"], &[], 3, b"read: b.stl\n"),
-    (&["trial", "1", "0"], &[], 2, b"words: not yet\n"),
-    (
-        &["arrange", "--least", "p", "q"],
-        &[],
-        2,
-        b"words: not yet\n",
-    ),
+    (&["trial", "1"], &[], 2, b"words: usage\n"),
+    (&["arrange", "--least", "p", "q"], &[], 3, b"read: p\n"),
     (&["arrange", "p", "q", "q"], &[], 3, b"read: p\n"),
     (&["arrange", "p1.toml", "a.stl"], &[], 3, b"read: p1.toml\n"),
     (&["arrange", "p0.toml", "-"], &[], 3, b"read: -\n"),

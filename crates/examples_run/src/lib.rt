@@ -10,7 +10,11 @@ mod arranging;
 #[cfg(test)]
 mod auditing;
 #[cfg(test)]
+mod checking;
+#[cfg(test)]
 mod describing;
+#[cfg(test)]
+mod least;
 #[cfg(test)]
 mod meshes;
 #[cfg(test)]
@@ -19,3 +23,5 @@ mod runs;
 mod several;
 #[cfg(test)]
 mod slicing;
+#[cfg(test)]
+mod trials;

@@ -55,7 +55,7 @@ fn file(alloc: Global, name: &str, bytes: Vec<u8>) -> Result<MemFile, Fail> {
     Ok(MemFile::new(String::from_str(alloc, name)?, bytes))
 }
 
-// A printer `p0.toml`, a plan `plan.txt` and a mesh `a.stl`.
+// A printer `p0.toml`, a plan `plan.txt`, a mesh `a.stl`, and a block of 30 mm in `tall.stl`.
 fn shelf_of(
     alloc: Global,
     printer: &[u8],
@@ -67,12 +67,13 @@ fn shelf_of(
     files.push(file(alloc, "p0.toml", Vec::from_slice(alloc, printer)?)?)?;
     files.push(file(alloc, "plan.txt", plan)?)?;
     files.push(file(alloc, "a.stl", mesh)?)?;
+    files.push(file(alloc, "tall.stl", file_of(alloc, &Mesh::Block(30))?)?)?;
     Ok(MemShelf::new(files, 1 << 20, Vec::from_slice(alloc, failing)?))
 }
 
 // It takes ten bytes at a call.
 fn sink(alloc: Global, failing: &[u64]) -> Result<MemSink, Fail> {
-    Ok(MemSink::new(alloc, 4096, 10, Vec::from_slice(alloc, failing)?)?)
+    Ok(MemSink::new(alloc, 1 << 20, 10, Vec::from_slice(alloc, failing)?)?)
 }
 
 fn owned(alloc: Global, words: &[&str]) -> Result<Vec<String>, Fail> {

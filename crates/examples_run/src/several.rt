@@ -5,7 +5,7 @@ use std::process::Abort;
 use std::test::Fail;
 
 // The plate of 40 by 40 with the nozzle and the gantry.
-const SMALL: &[u8] =
+pub(crate) const SMALL: &[u8] =
     b"format = 1\ngrain = 1\nplate = [40, 40]\nstep = 10\nmargin = 1\ngrid = 100\n\n[[part]]\nname = \"nozzle\"\nfrom = 0\ncorners = [[-2, -2], [2, -2], [2, 2], [-2, 2]]\n\n[[part]]\nname = \"gantry\"\nfrom = 20\nbar = \"x\"\nlow = -10\nhigh = 10\n";
 
 const TWO: &[&str] = &["arrange", "p0.toml", "a.stl", "a.stl"];
@@ -23,7 +23,7 @@ const THREE: &[&str] = &[
 
 const FOUND: &[u8] = b"seqplan 1\nstate found\ngrid 100\nextent 100\nscale ";
 
-const NONE: &[u8] = b"seqplan 1\nstate none\ngrid 100\ncertificate 1\nexcludes 100\n";
+pub(crate) const NONE: &[u8] = b"seqplan 1\nstate none\ngrid 100\ncertificate 1\nexcludes 100\n";
 
 // Both cubes stand in one place at the root, and collide both ways.
 const SPENT: &[u8] =

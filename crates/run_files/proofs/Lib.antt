@@ -1,2 +1,4 @@
 pub mod ReadLaws
 pub mod Loadings
+pub mod Stated
+pub mod OneJob

@@ -3,7 +3,6 @@ use Rattle.std.proofs.Common.{◌≡◌, ℕ, zero, suc, ◌+◌, ◌-◌, ◌<�
 use Rattle.std.proofs.lemmas.List.{take_all}
 use Rattle.std.proofs.lemmas.List.Elements.{All-nil, All-cons}
 use Rattle.std.specs.List.{AllZip}
-use Rattle.plan_text.specs.declared.file.PlanFile.{PlanFile}
 use Rattle.seq_io.specs.Counts.{raised}
 use Rattle.seq_io.specs.Views.{ShelfView}
 use Rattle.seq_model.specs.Scenes.{Description}
@@ -13,12 +12,13 @@ use Rattle.seq_model.specs.declared.job.Object.{Object}
 use Rattle.seq_model.specs.declared.mesh.Facet.{Facet}
 use Rattle.seq_model.specs.declared.printer.Printer.{Printer as Machine}
 use Rattle.run_files.specs.Causes.{AreUsableBefore, IsRefusedMesh, IsUnfit}
-use Rattle.run_files.specs.Files.{HasNamedPlan, IsMeshFile, IsPrinterFor, IsPrinterOf, IsUsableMesh, NamedMesh, name_in, name_or}
+use Rattle.run_files.specs.Files.{HasNamedPlan, IsMeshFile, IsOnlyPlan, IsPrinterFor, IsPrinterOf, IsUsableMesh, NamedMesh, name_in, name_or}
 use Rattle.run_files.specs.Jobs.{IsLoaded, IsObjectFor}
 use Rattle.run_files.specs.Loading.{IsFitted, Loading, NextPlan, last_before, last_of_head}
 use Rattle.run_files.specs.Notes.{AreNotesFor, AreNotesOf, IsMeshNote, IsNoteFor}
 use Rattle.run_files.specs.Stops.{Explains, IsDue, NextRead, ReadUpTo, WantsMemory, before_meshes, last_of, more, unfit_stop}
 use Rattle.run_files.specs.Words.{IsRequest, is_strict}
+use Rattle.run_files.specs.declared.plans.GivenPlan.{GivenPlan}
 use Rattle.run_files.specs.declared.stop.NamedFile.TheVariants.{Printer, Plan, Mesh}
 use Rattle.run_files.specs.declared.stop.Unfit.{Unfit}
 use Rattle.run_files.specs.declared.stop.Unfit.TheVariants.{Because, NoMemory}
@@ -61,16 +61,20 @@ notes-more (x ∷ ms) m notes note are is = record {
 
 notes_for-more : (task : Task) (ms : List NamedMesh) (m : NamedMesh) (notes note : List ℕ) → AreNotesFor task ms notes → IsNoteFor task m note → AreNotesFor task (ms ++ m ∷ []) (notes ++ note)
 notes_for-more (Tasks.Arrange strict budget) ms m notes note are is = notes-more ms m notes note are is
+notes_for-more (Tasks.Least strict budget) ms m notes note are is = notes-more ms m notes note are is
+notes_for-more Tasks.Check ms m notes note are is = ap (λ n. n ++ note) are ∙ is
 notes_for-more Tasks.Audit ms m notes note are is = ap (λ n. n ++ note) are ∙ is
 notes_for-more Tasks.Slices ms m notes note are is = ap (λ n. n ++ note) are ∙ is
 
 no_notes : (task : Task) → AreNotesFor task [] []
 no_notes (Tasks.Arrange strict budget) = refl
+no_notes (Tasks.Least strict budget) = refl
+no_notes Tasks.Check = refl
 no_notes Tasks.Audit = refl
 no_notes Tasks.Slices = refl
 
 -- ---- the next mesh
-abbrev before_mesh : (a : Asked) (printer : Machine) (plan : Option PlanFile) (k : ℕ) (s s1 : ShelfView) (objects : List Object) (notes : List ℕ) → Loading a printer plan k s s1 objects notes → k < length a.meshes → AreUsableBefore s.files a k
+abbrev before_mesh : (a : Asked) (printer : Machine) (plan : Option GivenPlan) (k : ℕ) (s s1 : ShelfView) (objects : List Object) (notes : List ℕ) → Loading a printer plan k s s1 objects notes → k < length a.meshes → AreUsableBefore s.files a k
 before_mesh a printer plan k s s1 objects notes l there = record {
   there = there;
   description = l.description;
@@ -81,7 +85,7 @@ before_mesh a printer plan k s s1 objects notes l there = record {
   each = l.each;
 }
 
-pub mesh_due : (a : Asked) (printer : Machine) (plan : Option PlanFile) (k : ℕ) (s s1 : ShelfView) (objects : List Object) (notes : List ℕ) → Loading a printer plan k s s1 objects notes → k < length a.meshes → IsDue a (Mesh k) s s1
+pub mesh_due : (a : Asked) (printer : Machine) (plan : Option GivenPlan) (k : ℕ) (s s1 : ShelfView) (objects : List Object) (notes : List ℕ) → Loading a printer plan k s s1 objects notes → k < length a.meshes → IsDue a (Mesh k) s s1
 mesh_due a printer plan k s s1 objects notes l there = record {
   files = l.files;
   before = before_mesh a printer plan k s s1 objects notes l there;
@@ -90,7 +94,7 @@ mesh_due a printer plan k s s1 objects notes l there = record {
   reached = l.reached;
 }
 
-pub loaded_more : (a : Asked) (printer : Machine) (plan : Option PlanFile) (k : ℕ) (s s1 s' : ShelfView) (objects : List Object) (notes : List ℕ) (object : Object) (note : List ℕ) → Loading a printer plan k s s1 objects notes → k < length a.meshes
+pub loaded_more : (a : Asked) (printer : Machine) (plan : Option GivenPlan) (k : ℕ) (s s1 s' : ShelfView) (objects : List Object) (notes : List ℕ) (object : Object) (note : List ℕ) → Loading a printer plan k s s1 objects notes → k < length a.meshes
     → s'.files ≡ s1.files → NextRead (name_in a (Mesh k)) s1 s' → IsFitted s1.files a.task (name_in a (Mesh k)) printer object note → Loading a printer plan (k + 1) s s' (objects ++ object ∷ []) (notes ++ note)
 loaded_more a printer plan k s s1 s' objects notes object note l there same next f =
     let due = mesh_due a printer plan k s s1 objects notes l there in
@@ -107,6 +111,7 @@ loaded_more a printer plan k s s1 s' objects notes object note l there same next
       stated = l.stated;
       fits = l.fits;
       is_plan = l.is_plan;
+      only_plan = l.only_plan;
       meshes = l.meshes ++ f.mesh ∷ [];
       each = subst (λ names. AllZip R names (l.meshes ++ f.mesh ∷ [])) (sym (take-more a.meshes k there)) (AllZip-more R (take k a.meshes) l.meshes name f.mesh l.each usable);
       are_objects = AllZip-more (IsObjectFor printer) l.meshes objects f.mesh object l.are_objects f.object;
@@ -123,8 +128,8 @@ loaded_more a printer plan k s s1 s' objects notes object note l there same next
         plus_one k = omega arith
 
 -- a mesh that was read and can't be used
-pub unfit_stops : (a : Asked) (printer : Machine) (plan : Option PlanFile) (k : ℕ) (s s1 s' : ShelfView) (objects : List Object) (notes : List ℕ) (facets : List Facet) (dropped : ℕ) (why : Unfit) → Loading a printer plan k s s1 objects notes → k < length a.meshes
-    → NextRead (name_in a (Mesh k)) s1 s' → IsMeshFile s1.files (name_in a (Mesh k)) facets dropped → IsUnfit a.task facets printer.step why → Explains a s s' (unfit_stop k why)
+pub unfit_stops : (a : Asked) (printer : Machine) (plan : Option GivenPlan) (k : ℕ) (s s1 s' : ShelfView) (objects : List Object) (notes : List ℕ) (facets : List Facet) (dropped : ℕ) (why : Unfit) → Loading a printer plan k s s1 objects notes → k < length a.meshes
+    → NextRead (name_in a (Mesh k)) s1 s' → IsMeshFile s1.files (name_in a (Mesh k)) facets dropped → IsUnfit a.task facets printer.step why → Explains a s s' (unfit_stop (Mesh k) why)
 unfit_stops a printer plan k s s1 s' objects notes facets dropped (Because c) l there next is u =
     let due = mesh_due a printer plan k s s1 objects notes l there in
     let same : IsMeshFile s.files (name_in a (Mesh k)) facets dropped = subst (λ fs. IsMeshFile fs (name_in a (Mesh k)) facets dropped) l.files is in
@@ -140,7 +145,7 @@ unfit_stops a printer plan k s s1 s' objects notes facets dropped NoMemory l the
     inr (record { file = Mesh k; before = due.before; read = read_due a (Mesh k) s s1 s' due next })
 
 -- memory was wanting once a mesh was read
-pub unkept_mesh : (a : Asked) (printer : Machine) (plan : Option PlanFile) (k : ℕ) (s s1 s' : ShelfView) (objects : List Object) (notes : List ℕ) → Loading a printer plan k s s1 objects notes → k < length a.meshes → NextRead (name_in a (Mesh k)) s1 s' → WantsMemory a s s'
+pub unkept_mesh : (a : Asked) (printer : Machine) (plan : Option GivenPlan) (k : ℕ) (s s1 s' : ShelfView) (objects : List Object) (notes : List ℕ) → Loading a printer plan k s s1 objects notes → k < length a.meshes → NextRead (name_in a (Mesh k)) s1 s' → WantsMemory a s s'
 unkept_mesh a printer plan k s s1 s' objects notes l there next =
     let due = mesh_due a printer plan k s s1 objects notes l there in
     inr (record { file = Mesh k; before = due.before; read = read_due a (Mesh k) s s1 s' due next })
@@ -155,15 +160,18 @@ plan_due a printer s s1 files p r named = record {
   reached = inr (record { file = Printer; before = tt; read = read_due a Printer s s s1 (printer_due a s) r });
 }
 
-pub none_loaded : (a : Asked) (printer : Machine) (plan : Option PlanFile) (s s1 s2 : ShelfView) → s1.files ≡ s.files → IsPrinterOf s.files a.printer printer → NextRead a.printer s s1 → s2.files ≡ s1.files → HasNamedPlan s1.files a.plan plan → NextPlan a.plan s1 s2
+pub none_loaded : (a : Asked) (printer : Machine) (plan : Option GivenPlan) (s s1 s2 : ShelfView) → s1.files ≡ s.files → IsPrinterOf s.files a.printer printer → NextRead a.printer s s1 → s2.files ≡ s1.files → HasNamedPlan s1.files a.task a.plan plan → IsOnlyPlan s1.files a plan → NextPlan a.plan s1 s2
     → Loading a printer plan zero s s2 [] []
-none_loaded a printer plan s s1 s2 files p r more_files h next = by a.plan refl
+none_loaded a printer plan s s1 s2 files p r more_files h only next = by a.plan refl
   where
     first : ReadUpTo a Printer s s1
     first = read_due a Printer s s s1 (printer_due a s) r
 
-    has : HasNamedPlan s.files a.plan plan
-    has = subst (λ fs. HasNamedPlan fs a.plan plan) files h
+    has : HasNamedPlan s.files a.task a.plan plan
+    has = subst (λ fs. HasNamedPlan fs a.task a.plan plan) files h
+
+    only_one : IsOnlyPlan s.files a plan
+    only_one = subst (λ fs. IsOnlyPlan fs a plan) files only
 
     by : (named : Option (List ℕ)) → a.plan ≡ named → Loading a printer plan zero s s2 [] []
     by None e =
@@ -177,6 +185,7 @@ none_loaded a printer plan s s1 s2 files p r more_files h next = by a.plan refl
           stated = p.is;
           fits = p.fits;
           is_plan = has;
+          only_plan = only_one;
           meshes = [];
           each = tt;
           are_objects = tt;
@@ -196,6 +205,7 @@ none_loaded a printer plan s s1 s2 files p r more_files h next = by a.plan refl
           stated = p.is;
           fits = p.fits;
           is_plan = has;
+          only_plan = only_one;
           meshes = [];
           each = tt;
           are_objects = tt;
@@ -207,10 +217,10 @@ last_read : (a : Asked) (n : ℕ) → 1 ≤ n → last_before a n ≡ Mesh (n - 
 last_read a zero h = absurd (omega (arith, h))
 last_read a (suc n) h = ap Mesh (omega arith)
 
-pub all_read : (a : Asked) (printer : Machine) (plan : Option PlanFile) (s s' : ShelfView) (objects : List Object) (notes : List ℕ) → IsRequest a → Loading a printer plan (length a.meshes) s s' objects notes → ReadUpTo a (last_of a) s s'
+pub all_read : (a : Asked) (printer : Machine) (plan : Option GivenPlan) (s s' : ShelfView) (objects : List Object) (notes : List ℕ) → IsRequest a → Loading a printer plan (length a.meshes) s s' objects notes → ReadUpTo a (last_of a) s s'
 all_read a printer plan s s' objects notes r l = subst (λ file. ReadUpTo a file s s') (last_read a (length a.meshes) r.some) l.read
 
-pub are_sound : (a : Asked) (printer : Machine) (plan : Option PlanFile) (s s' : ShelfView) (objects : List Object) (notes : List ℕ) → IsRequest a → Loading a printer plan (length a.meshes) s s' objects notes → AreSoundObjects objects
+pub are_sound : (a : Asked) (printer : Machine) (plan : Option GivenPlan) (s s' : ShelfView) (objects : List Object) (notes : List ℕ) → IsRequest a → Loading a printer plan (length a.meshes) s s' objects notes → AreSoundObjects objects
 are_sound a printer plan s s' objects notes r l =
     let as_many : length (take (length a.meshes) a.meshes) ≡ length l.meshes = AllZip-length (IsUsableMesh s.files (is_strict a.task) l.description.step) (take (length a.meshes) a.meshes) l.meshes l.each in
     let all : take (length a.meshes) a.meshes ≡ a.meshes = take_all (length a.meshes) a.meshes (omega arith) in
@@ -222,7 +232,7 @@ are_sound a printer plan s s' objects notes r l =
     each [] (o ∷ objects) z = absurd z
     each (m ∷ meshes) (o ∷ objects) z = All-cons IsSoundObject o objects z.0.sound (each meshes objects z.1)
 
-pub is_loaded : (a : Asked) (printer : Machine) (plan : Option PlanFile) (s s' : ShelfView) (objects : List Object) (notes : List ℕ) (job : Job) → Loading a printer plan (length a.meshes) s s' objects notes → job.printer ≡ printer → job.objects ≡ objects → IsLoaded s.files a job plan notes
+pub is_loaded : (a : Asked) (printer : Machine) (plan : Option GivenPlan) (s s' : ShelfView) (objects : List Object) (notes : List ℕ) (job : Job) → Loading a printer plan (length a.meshes) s s' objects notes → job.printer ≡ printer → job.objects ≡ objects → IsLoaded s.files a job plan notes
 is_loaded a printer plan s s' objects notes job l same_printer same_objects = record {
   inputs = record { description = l.description; plan = plan; meshes = l.meshes };
   usable = record {
@@ -235,5 +245,6 @@ is_loaded a printer plan s s' objects notes job l same_printer same_objects = re
     objects = subst (λ (p : Machine). AllZip (IsObjectFor p) l.meshes job.objects) (sym same_printer) (subst (AllZip (IsObjectFor printer) l.meshes) (sym same_objects) l.are_objects);
   };
   is_plan = refl;
+  only_plan = l.only_plan;
   are_notes = l.are_notes;
 }

@@ -4,8 +4,12 @@
 --   IsSomePrinter files name          the file of that name states some description
 --   IsNoPrinter files name e          its bytes are within the limit, and no description for this cause
 --   IsRefusedFile files name c        the printer's file is refused for this cause
---   IsNoPlan files name e             the bytes of the file are within the limit, and no plan for this cause
---   IsRefusedPlan files name c        the plan's file is refused for this cause
+--   HasNoBlock task bytes e           the bytes begin with the lines of a plan, and the block behind them, which the task reads, is
+--                                     refused for this cause
+--   IsPlanCause task bytes c          reading the bytes refuses a plan, or its block, for this cause
+--   StatesNone task bytes c           they state no plan, for this cause
+--   IsNoPlan files task name c        the bytes of the file are within the limit, and state no plan for this cause
+--   IsRefusedPlan files task name c   the plan's file is refused for this cause
 --   IsNoStl files name e              the bytes of the file are within the limit, and no mesh for this cause
 --   IsNotClosed strict facets e v     a strict run, and the mesh has e open edges and v for six times its volume
 --   IsUnfitFor task facets step c     the mesh can't be used for this cause
@@ -16,16 +20,20 @@
 --   IsPlanRefused, IsRefusedBy        what stands before it can be used, and the plan, or that mesh, is refused for this cause
 --   Refuses files a file c            the first file in word order that can't be used is this one, for this cause
 --   Reaches files a file              those before this one can be used
+--   IsUnstated                        what a stop at the bytes of a plan says
 --   IsUnlooked, IsUnsliced, IsUnfit   what a stop of looking at a mesh, of slicing it, and of all work on it says
-use Rattle.std.specs.Prelude.{◌≡◌, ℕ, ℤ, Bool, true, ◌≤◌, ◌<◌, List, [], length, take, Option, IsSome, Err}
+use Rattle.std.specs.Prelude.{◌≡◌, ℕ, ℤ, Bool, true, ◌≤◌, ◌<◌, List, [], length, take, drop, Option, IsSome, Err}
 use Rattle.std.specs.List.{AllZip}
+use Rattle.cert_text.specs.Heads.{IsRefusedTree}
+use Rattle.cert_text.specs.declared.block.CertRead.{CertRead}
+use Rattle.cert_text.specs.declared.block.Kind.TheVariants.{Certificate}
 use Rattle.mesh_checks.specs.Edges.{open_edges}
 use Rattle.mesh_checks.specs.Verdicts.{IsClosedOutward}
 use Rattle.mesh_checks.specs.Volumes.{six_volume}
 use Rattle.mesh_slices.specs.Objects.{IsTooTall}
+use Rattle.plan_text.specs.PlanText.{IsPlanOf}
 use Rattle.plan_text.specs.Reading.{plan_answer}
 use Rattle.plan_text.specs.declared.file.PlanFile.{PlanFile}
-use Rattle.plan_text.specs.declared.reading.PlanRead.{PlanRead}
 use Rattle.printer_text.specs.Printers.{IsRefusedPrinter}
 use Rattle.printer_text.specs.declared.Prn.{Prn}
 use Rattle.seq_io.specs.Files.{GivesFile, LongerThan}
@@ -35,7 +43,9 @@ use Rattle.seq_model.specs.declared.mesh.Facet.{Facet}
 use Rattle.stl_text.specs.Meshes.{IsRefused}
 use Rattle.stl_text.specs.declared.Stl.{Stl}
 use Rattle.run_files.specs.Files.{name_in, printer_limit, plan_limit, mesh_limit, HasNamedPlan, IsPrinterFile, IsMeshFile, PassesStrict, NamedMesh, IsUsableMesh}
+use Rattle.run_files.specs.Plans.{IsStatedBy, reads_block}
 use Rattle.run_files.specs.Words.{is_strict}
+use Rattle.run_files.specs.declared.plans.GivenPlan.{GivenPlan}
 use Rattle.run_files.specs.declared.stop.Cause.{Cause}
 use Rattle.run_files.specs.declared.stop.Cause.TheVariants as Causes
 use Rattle.run_files.specs.declared.stop.NamedFile.{NamedFile}
@@ -60,26 +70,50 @@ abbrev pub IsRefusedFile : Option (List MemFile) → List ℕ → Cause → Type
 IsRefusedFile files name Causes.TooLong = LongerThan (printer_limit) files name
 IsRefusedFile files name (Causes.Printer e) = IsNoPrinter files name e
 IsRefusedFile files name (Causes.Plan e) = ⊥
+IsRefusedFile files name (Causes.Block e) = ⊥
 IsRefusedFile files name (Causes.Stl e) = ⊥
 IsRefusedFile files name (Causes.NotClosed edges volume) = ⊥
 IsRefusedFile files name Causes.Flat = ⊥
 IsRefusedFile files name (Causes.TooTall bands) = ⊥
 
--- bytes within the limit of which reading them in order refuses a line, or the end
-pub record IsNoPlan (files : Option (List MemFile)) (name : List ℕ) (e : PlanRead) : Type 0 where
+-- the lines of a plan can be read, and the tree block behind them is refused
+pub record HasNoBlock (task : Task) (bytes : List ℕ) (e : CertRead) : Type 0 where
+  pub file : PlanFile
+  pub place : ℕ
+  pub is : IsPlanOf bytes file place
+  pub due : reads_block task file ≡ true
+  pub refused : IsRefusedTree (drop place bytes) Certificate e
+
+-- reading them in order refuses a line, or the end, of the plan or of the block that the task reads
+abbrev pub IsPlanCause : Task → List ℕ → Cause → Type 0
+IsPlanCause task bytes Causes.TooLong = ⊥
+IsPlanCause task bytes (Causes.Printer e) = ⊥
+IsPlanCause task bytes (Causes.Plan e) = plan_answer bytes ≡ Err e
+IsPlanCause task bytes (Causes.Block e) = HasNoBlock task bytes e
+IsPlanCause task bytes (Causes.Stl e) = ⊥
+IsPlanCause task bytes (Causes.NotClosed edges volume) = ⊥
+IsPlanCause task bytes Causes.Flat = ⊥
+IsPlanCause task bytes (Causes.TooTall bands) = ⊥
+
+pub record StatesNone (task : Task) (bytes : List ℕ) (c : Cause) : Type 0 where
+  pub cause : IsPlanCause task bytes c
+  pub none : (plan : GivenPlan) → IsStatedBy task bytes plan → ⊥
+
+pub record IsNoPlan (files : Option (List MemFile)) (task : Task) (name : List ℕ) (c : Cause) : Type 0 where
   pub bytes : List ℕ
   pub gives : GivesFile files name bytes
   pub short : length bytes ≤ plan_limit
-  pub refused : plan_answer bytes ≡ Err e
+  pub refused : StatesNone task bytes c
 
-abbrev pub IsRefusedPlan : Option (List MemFile) → List ℕ → Cause → Type 0
-IsRefusedPlan files name Causes.TooLong = LongerThan plan_limit files name
-IsRefusedPlan files name (Causes.Printer e) = ⊥
-IsRefusedPlan files name (Causes.Plan e) = IsNoPlan files name e
-IsRefusedPlan files name (Causes.Stl e) = ⊥
-IsRefusedPlan files name (Causes.NotClosed edges volume) = ⊥
-IsRefusedPlan files name Causes.Flat = ⊥
-IsRefusedPlan files name (Causes.TooTall bands) = ⊥
+abbrev pub IsRefusedPlan : Option (List MemFile) → Task → List ℕ → Cause → Type 0
+IsRefusedPlan files task name Causes.TooLong = LongerThan plan_limit files name
+IsRefusedPlan files task name (Causes.Printer e) = ⊥
+IsRefusedPlan files task name (Causes.Plan e) = IsNoPlan files task name (Causes.Plan e)
+IsRefusedPlan files task name (Causes.Block e) = IsNoPlan files task name (Causes.Block e)
+IsRefusedPlan files task name (Causes.Stl e) = ⊥
+IsRefusedPlan files task name (Causes.NotClosed edges volume) = ⊥
+IsRefusedPlan files task name Causes.Flat = ⊥
+IsRefusedPlan files task name (Causes.TooTall bands) = ⊥
 
 -- bytes within the limit that the grammar of meshes refuses
 pub record IsNoStl (files : Option (List MemFile)) (name : List ℕ) (e : Stl) : Type 0 where
@@ -100,6 +134,7 @@ abbrev pub IsUnfitFor : Task → List Facet → ℤ → Cause → Type 0
 IsUnfitFor task facets step Causes.TooLong = ⊥
 IsUnfitFor task facets step (Causes.Printer e) = ⊥
 IsUnfitFor task facets step (Causes.Plan e) = ⊥
+IsUnfitFor task facets step (Causes.Block e) = ⊥
 IsUnfitFor task facets step (Causes.Stl e) = ⊥
 IsUnfitFor task facets step (Causes.NotClosed edges volume) = IsNotClosed (is_strict task) facets edges volume
 IsUnfitFor task facets step Causes.Flat = PassesStrict (is_strict task) facets × (facets ≡ [])
@@ -116,6 +151,7 @@ abbrev pub IsRefusedMesh : Option (List MemFile) → List ℕ → Task → ℤ �
 IsRefusedMesh files name task step Causes.TooLong = LongerThan mesh_limit files name
 IsRefusedMesh files name task step (Causes.Printer e) = ⊥
 IsRefusedMesh files name task step (Causes.Plan e) = ⊥
+IsRefusedMesh files name task step (Causes.Block e) = ⊥
 IsRefusedMesh files name task step (Causes.Stl e) = IsNoStl files name e
 IsRefusedMesh files name task step (Causes.NotClosed edges volume) = IsUnfitFile files name task step (Causes.NotClosed edges volume)
 IsRefusedMesh files name task step Causes.Flat = IsUnfitFile files name task step Causes.Flat
@@ -128,15 +164,15 @@ pub record IsPlanDue (files : Option (List MemFile)) (a : Asked) : Type 0 where
 
 pub record IsPlanRefused (files : Option (List MemFile)) (a : Asked) (c : Cause) : Type 0 where
   pub before : IsPlanDue files a
-  pub refused : IsRefusedPlan files (name_in a Plan) c
+  pub refused : IsRefusedPlan files a.task (name_in a Plan) c
 
 -- a word names the mesh of number k, and what stands before it can be used
 pub record AreUsableBefore (files : Option (List MemFile)) (a : Asked) (k : ℕ) : Type 0 where
   pub there : k < length a.meshes
   pub description : Description
   pub printer : IsPrinterFile files a.printer description
-  pub plan : Option PlanFile
-  pub named_plan : HasNamedPlan files a.plan plan
+  pub plan : Option GivenPlan
+  pub named_plan : HasNamedPlan files a.task a.plan plan
   pub meshes : List NamedMesh
   pub each : AllZip (IsUsableMesh files (is_strict a.task) description.step) (take k a.meshes) meshes
 
@@ -153,6 +189,11 @@ abbrev pub Reaches : Option (List MemFile) → Asked → NamedFile → Type 0
 Reaches files a Printer = Unit {0}
 Reaches files a Plan = IsPlanDue files a
 Reaches files a (Mesh k) = AreUsableBefore files a k
+
+-- what the bytes of a plan stop for: a cause, or want of memory
+abbrev pub IsUnstated : Task → List ℕ → Unfit → Type 0
+IsUnstated task bytes (Because c) = StatesNone task bytes c
+IsUnstated task bytes NoMemory = Unit {0}
 
 -- what a look at a mesh, its slicing, and all of its work stops for: a cause, or want of memory
 abbrev pub IsUnlooked : Bool → List Facet → Unfit → Type 0

@@ -3,9 +3,9 @@
 --   name_in a file                    the word that names the file, nothing where no word does
 --   limit_of file                     the most bytes that the file may have
 --   IsPrinterFile files name d        the file of that name states the description d, within its limit
---   StatesPlan files name plan        the file of that name begins with the lines of this plan file, within its limit; a tree block that
---                                     is due behind them may be whatever it is
---   HasNamedPlan files name plan      the same of the file that the words name as a plan, where they name one
+--   StatesPlan files task name plan   the file of that name states this plan, as far as the task reads it, within its limit
+--   HasNamedPlan files task name plan the same of the file that the words name as a plan, where they name one
+--   IsOnlyPlan files a plan           files that are told state no other plan by the name that the words give
 --   IsMeshFile files name fs dropped  the file of that name is a mesh of these facets, within its limit
 --   PassesStrict strict facets        where the run is strict, the mesh is closed and looks outward
 --   IsPrinterFor d printer            the printer has the numbers of the description, and its parts with the corners of their hulls
@@ -15,15 +15,12 @@
 --   AreUsable files a inputs          the files that the words name say this, and they can be used
 --   mesh_of name facets dropped       a mesh that was read, with its name
 --   facets_of meshes                  the facets of each
-use Rattle.std.specs.Prelude.{◌≡◌, ℕ, ℤ, Bool, true, ◌≤◌, ◌^◌, ◌*◌, List, [], length, map, slice_get, Option, Some, None, Ok}
+use Rattle.std.specs.Prelude.{◌≡◌, ℕ, ℤ, Bool, true, ◌≤◌, ◌^◌, ◌*◌, List, [], length, map, slice_get, Option, Some, None}
 use Rattle.std.specs.List.{AllZip}
 use Rattle.mesh_checks.specs.Edges.{open_edges}
 use Rattle.mesh_checks.specs.Verdicts.{IsClosedOutward}
 use Rattle.mesh_checks.specs.Volumes.{six_volume}
 use Rattle.mesh_slices.specs.Objects.{CanBeSliced}
-use Rattle.plan_text.specs.PlanText.{IsPlanOf}
-use Rattle.plan_text.specs.Reading.{plan_answer}
-use Rattle.plan_text.specs.declared.file.PlanFile.{PlanFile}
 use Rattle.printer_text.specs.Printers.{DescribedBy, AreKept}
 use Rattle.seq_io.specs.Files.{GivesFile}
 use Rattle.seq_io.specs.declared.mem_file.MemFile.{MemFile}
@@ -31,10 +28,13 @@ use Rattle.seq_model.specs.Scenes.{Description, description_of}
 use Rattle.seq_model.specs.declared.mesh.Facet.{Facet}
 use Rattle.seq_model.specs.declared.printer.Printer.{Printer}
 use Rattle.stl_text.specs.Meshes.{MeshOf}
+use Rattle.run_files.specs.Plans.{IsStatedBy}
 use Rattle.run_files.specs.Words.{is_strict}
+use Rattle.run_files.specs.declared.plans.GivenPlan.{GivenPlan}
 use Rattle.run_files.specs.declared.stop.NamedFile.{NamedFile}
 use Rattle.run_files.specs.declared.stop.NamedFile.TheVariants as Named
 use Rattle.run_files.specs.declared.words.Asked.{Asked}
+use Rattle.run_files.specs.declared.words.Task.{Task}
 
 abbrev pub name_or : Option (List ℕ) → List ℕ
 name_or None = []
@@ -66,20 +66,20 @@ pub record IsPrinterFile (files : Option (List MemFile)) (name : List ℕ) (d : 
   pub short : length bytes ≤ printer_limit
   pub is : DescribedBy bytes d
 
--- `is` says what the bytes are, and `read` that reading them in order refuses nothing
-pub record StatesPlan (files : Option (List MemFile)) (name : List ℕ) (plan : PlanFile) : Type 0 where
+pub record StatesPlan (files : Option (List MemFile)) (task : Task) (name : List ℕ) (plan : GivenPlan) : Type 0 where
   pub bytes : List ℕ
   pub gives : GivesFile files name bytes
   pub short : length bytes ≤ plan_limit
-  pub place : ℕ
-  pub is : IsPlanOf bytes plan place
-  pub read : plan_answer bytes ≡ Ok (plan, place)
+  pub is : IsStatedBy task bytes plan
 
-abbrev pub HasNamedPlan : Option (List MemFile) → Option (List ℕ) → Option PlanFile → Type 0
-HasNamedPlan files None None = Unit {0}
-HasNamedPlan files None (Some plan) = ⊥
-HasNamedPlan files (Some name) None = ⊥
-HasNamedPlan files (Some name) (Some plan) = StatesPlan files name plan
+abbrev pub HasNamedPlan : Option (List MemFile) → Task → Option (List ℕ) → Option GivenPlan → Type 0
+HasNamedPlan files task None None = Unit {0}
+HasNamedPlan files task None (Some plan) = ⊥
+HasNamedPlan files task (Some name) None = ⊥
+HasNamedPlan files task (Some name) (Some plan) = StatesPlan files task name plan
+
+pub record IsOnlyPlan (files : Option (List MemFile)) (a : Asked) (plan : Option GivenPlan) : Type 0 where
+  pub same : (told : List MemFile) → files ≡ Some told → (other : Option GivenPlan) → HasNamedPlan (Some told) a.task a.plan other → other ≡ plan
 
 pub record IsMeshFile (files : Option (List MemFile)) (name : List ℕ) (facets : List Facet) (dropped : ℕ) : Type 0 where
   pub bytes : List ℕ
@@ -119,10 +119,10 @@ pub record IsUsableMesh (files : Option (List MemFile)) (strict : Bool) (step : 
 
 pub record Inputs : Type 0 where
   pub description : Description
-  pub plan : Option PlanFile
+  pub plan : Option GivenPlan
   pub meshes : List NamedMesh
 
 pub record AreUsable (files : Option (List MemFile)) (a : Asked) (inputs : Inputs) : Type 0 where
   pub printer : IsPrinterFile files a.printer inputs.description
-  pub plan : HasNamedPlan files a.plan inputs.plan
+  pub plan : HasNamedPlan files a.task a.plan inputs.plan
   pub each : AllZip (IsUsableMesh files (is_strict a.task) inputs.description.step) a.meshes inputs.meshes

@@ -1,4 +1,5 @@
 pub mod Words
+pub mod Plans
 pub mod Files
 pub mod Causes
 pub mod Stops

@@ -6,17 +6,17 @@
 --   Loading a printer plan k s s' objects notes   the files before the mesh of number k were read and can be used, and they give this
 use Rattle.std.specs.Prelude.{◌≡◌, ℕ, zero, suc, List, take, Option, Some, None}
 use Rattle.std.specs.List.{AllZip}
-use Rattle.plan_text.specs.declared.file.PlanFile.{PlanFile}
 use Rattle.seq_io.specs.Views.{ShelfView}
 use Rattle.seq_io.specs.declared.mem_file.MemFile.{MemFile}
 use Rattle.seq_model.specs.Scenes.{Description}
 use Rattle.seq_model.specs.declared.job.Object.{Object}
 use Rattle.seq_model.specs.declared.printer.Printer.{Printer as Machine}
-use Rattle.run_files.specs.Files.{HasNamedPlan, IsPrinterFile, IsPrinterFor, IsUsableMesh, NamedMesh}
+use Rattle.run_files.specs.Files.{HasNamedPlan, IsOnlyPlan, IsPrinterFile, IsPrinterFor, IsUsableMesh, NamedMesh}
 use Rattle.run_files.specs.Jobs.{IsObjectFor}
 use Rattle.run_files.specs.Notes.{AreNotesFor, IsNoteFor}
 use Rattle.run_files.specs.Stops.{NextRead, ReadUpTo, WantsMemory, more, place_of}
 use Rattle.run_files.specs.Words.{is_strict}
+use Rattle.run_files.specs.declared.plans.GivenPlan.{GivenPlan}
 use Rattle.run_files.specs.declared.stop.NamedFile.{NamedFile}
 use Rattle.run_files.specs.declared.stop.NamedFile.TheVariants.{Printer, Plan, Mesh}
 use Rattle.run_files.specs.declared.words.Asked.{Asked}
@@ -40,7 +40,7 @@ pub record IsFitted (files : Option (List MemFile)) (task : Task) (name : List �
   pub object : IsObjectFor printer mesh o
   pub note : IsNoteFor task mesh notes
 
-pub record Loading (a : Asked) (printer : Machine) (plan : Option PlanFile) (k : ℕ) (s s' : ShelfView) (objects : List Object) (notes : List ℕ) : Type 0 where
+pub record Loading (a : Asked) (printer : Machine) (plan : Option GivenPlan) (k : ℕ) (s s' : ShelfView) (objects : List Object) (notes : List ℕ) : Type 0 where
   pub files : s'.files ≡ s.files
   pub starts : s'.starts ≡ more (place_of a (Mesh k)) s.starts
   pub read : ReadUpTo a (last_before a k) s s'
@@ -48,7 +48,8 @@ pub record Loading (a : Asked) (printer : Machine) (plan : Option PlanFile) (k :
   pub description : Description
   pub stated : IsPrinterFile s.files a.printer description
   pub fits : IsPrinterFor description printer
-  pub is_plan : HasNamedPlan s.files a.plan plan
+  pub is_plan : HasNamedPlan s.files a.task a.plan plan
+  pub only_plan : IsOnlyPlan s.files a plan
   pub meshes : List NamedMesh
   pub each : AllZip (IsUsableMesh s.files (is_strict a.task) description.step) (take k a.meshes) meshes
   pub are_objects : AllZip (IsObjectFor printer) meshes objects

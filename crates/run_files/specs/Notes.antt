@@ -29,10 +29,14 @@ AreNotesOf (m ∷ meshes) notes = NotesBegin (AreNotesOf meshes) m notes
 -- `arrange` notes what there is to note, and the others nothing
 abbrev pub IsNoteFor : Task → NamedMesh → List ℕ → Type 0
 IsNoteFor (Tasks.Arrange strict budget) m notes = IsMeshNote m notes
+IsNoteFor (Tasks.Least strict budget) m notes = IsMeshNote m notes
 IsNoteFor Tasks.Audit m notes = notes ≡ []
+IsNoteFor Tasks.Check m notes = notes ≡ []
 IsNoteFor Tasks.Slices m notes = notes ≡ []
 
 abbrev pub AreNotesFor : Task → List NamedMesh → List ℕ → Type 0
 AreNotesFor (Tasks.Arrange strict budget) meshes notes = AreNotesOf meshes notes
+AreNotesFor (Tasks.Least strict budget) meshes notes = AreNotesOf meshes notes
 AreNotesFor Tasks.Audit meshes notes = notes ≡ []
+AreNotesFor Tasks.Check meshes notes = notes ≡ []
 AreNotesFor Tasks.Slices meshes notes = notes ≡ []

@@ -16,7 +16,7 @@
 --   NextFails name s s'         it was started, alone, and then one call failed, the last
 --   IsUnread limit name s s' e  why it wasn't read
 --   stop_of file e              the stop at a file that was not read
---   unfit_stop k e              the stop at the mesh of number k that gives no answer
+--   unfit_stop file e           the stop at a file that was read and can't be used
 --   IsToldAs stop told          what is told of a stop: itself, or want of memory for its line
 use Rattle.std.specs.Prelude.{◌≡◌, ◌⊎◌, ℕ, zero, suc, ◌+◌, ◌-◌, List, length, true, Option, Some, None, IsTrue}
 use Rattle.seq_io.specs.Counts.{raised}
@@ -127,6 +127,6 @@ IsToldAs (Read file) told = told ≡ Read file
 IsToldAs (Input file c) told = (told ≡ Input file c) ⊎ (told ≡ Memory)
 IsToldAs Memory told = told ≡ Memory
 
-abbrev pub unfit_stop : ℕ → Unfit → Stop
-unfit_stop k (Because c) = Input (Mesh k) c
-unfit_stop k NoMemory = Memory
+abbrev pub unfit_stop : NamedFile → Unfit → Stop
+unfit_stop file (Because c) = Input file c
+unfit_stop file NoMemory = Memory

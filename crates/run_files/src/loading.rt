@@ -3,11 +3,11 @@ ghost use Rattle.run_files.specs.Jobs.{IsLoaded};
 ghost use Rattle.run_files.specs.Stops.{Explains, ReadUpTo, WantsMemory, last_of};
 ghost use Rattle.run_files.specs.Words.{IsRequest};
 
-use crate::files::{load_plan, load_printer};
+use crate::files::load_printer;
 use crate::meshes::{Found, load_meshes};
-use crate::{Asked, Stop};
+use crate::plans::load_plan;
+use crate::{Asked, GivenPlan, Stop};
 use owned_lists::Items;
-use plan_text::PlanFile;
 use seq_io::Shelf;
 use seq_model::Job;
 use std::alloc::Global;
@@ -16,7 +16,7 @@ use std::alloc::Global;
 #[derive(Debug, Drop)]
 pub struct Loaded {
     pub job: Job,
-    pub plan: Option<PlanFile>,
+    pub plan: Option<GivenPlan>,
     pub notes: Items<u8>,
 }
 

@@ -2,18 +2,19 @@ ghost use Rattle.std.specs.Prelude.{◌≡◌, ◌<◌, ◌+◌, ◌++◌, ◌�
 ghost use Rattle.mesh_checks.specs.Edges.{open_edges};
 ghost use Rattle.mesh_checks.specs.Volumes.{six_volume};
 ghost use Rattle.mesh_slices.specs.Objects.{CanBeSliced, IsObjectOf};
-ghost use Rattle.plan_text.specs.declared.file.PlanFile.{PlanFile};
 ghost use Rattle.seq_io.specs.Views.{ShelfView};
 ghost use Rattle.seq_model.specs.declared.job.Object.{Object};
 ghost use Rattle.run_files.specs.Causes.{IsUnfit, IsUnlooked, IsUnsliced};
 ghost use Rattle.run_files.specs.Files.{PassesStrict, mesh_of, name_in};
 ghost use Rattle.run_files.specs.Loading.{IsFitted, Loading};
 ghost use Rattle.run_files.specs.Notes.{IsNoteFor};
-ghost use Rattle.run_files.specs.Stops.{Explains, NextRead, unfit_stop};
+ghost use Rattle.run_files.specs.Stops.{Explains, NextRead};
 ghost use Rattle.run_files.specs.Words.{is_strict};
+ghost use Rattle.run_files.specs.declared.plans.GivenPlan.{GivenPlan};
 ghost use Rattle.run_files.specs.declared.stop.NamedFile.{NamedFile};
 
 use crate::files::load_mesh;
+use crate::stop::stop_at;
 use crate::words::name_in;
 use crate::{Asked, Cause, NamedFile, Stop, Task, Unfit};
 use mesh_checks::{Notes, look};
@@ -64,11 +65,11 @@ fn noted(alloc: Global, task: Task, name: &str, mesh: &Mesh) -> Result<Items<u8>
     ensures why { IfErr result (IsUnlooked (is_strict task) mesh.now.facets) }
 {
     match task {
-        Task::Arrange { strict, budget: _ } => {
+        Task::Arrange { strict, budget: _ } | Task::Least { strict, budget: _ } => {
             let looks = looked(alloc, strict, mesh)?;
             Ok(note_of(alloc, name, &looks)?)
         }
-        Task::Audit | Task::Slices => Ok(Items::new(alloc)),
+        Task::Audit | Task::Check | Task::Slices => Ok(Items::new(alloc)),
     }
 }
 
@@ -106,16 +107,6 @@ fn fit(
     Ok(Fitted { object, note })
 }
 
-// The stop at a mesh that can't be used.
-fn stop_at(number: usize, why: Unfit) -> Stop
-    ensures { result ≡ unfit_stop number why }
-{
-    match why {
-        Unfit::Because(cause) => Stop::Input(NamedFile::Mesh(number), cause),
-        Unfit::NoMemory => Stop::Memory,
-    }
-}
-
 // The object and the note of the mesh of this number, where it is the next file in word order.
 fn fit_file<S: Shelf>(
     alloc: Global,
@@ -130,7 +121,7 @@ fn fit_file<S: Shelf>(
     ensures read { OnOk result (NextRead (name_in asked.now (NamedFile.Mesh number))
         (S.shows shelf.old) (S.shows shelf.new)) }
     ensures files { (S.shows shelf.new).files ≡ (S.shows shelf.old).files }
-    ensures why { (s : ShelfView) (plan : Option PlanFile) (objects : List Object) (notes : List ℕ)
+    ensures why { (s : ShelfView) (plan : Option GivenPlan) (objects : List Object) (notes : List ℕ)
         → Loading asked.now printer.now plan number s (S.shows shelf.old) objects notes
         → IfErr result (Explains asked.now s (S.shows shelf.new)) }
 {
@@ -138,7 +129,7 @@ fn fit_file<S: Shelf>(
     let name = name_in(asked, NamedFile::Mesh(number));
     match fit(alloc, asked.task, name, &mesh, printer) {
         Ok(fitted) => Ok(fitted),
-        Err(why) => Err(stop_at(number, why)),
+        Err(why) => Err(stop_at(NamedFile::Mesh(number), why)),
     }
 }
 
@@ -162,12 +153,12 @@ fn load_next<S: Shelf>(
     shelf: &mut S,
 ) -> Result<(), Stop>
     requires { number < length asked.now.meshes }
-    ensures next { (s : ShelfView) (plan : Option PlanFile)
+    ensures next { (s : ShelfView) (plan : Option GivenPlan)
         → Loading asked.now printer.now plan number s
         (S.shows shelf.old) found.old.objects found.old.notes.items
         → OnOk result (Loading asked.now printer.now plan (number + 1) s (S.shows shelf.new)
         found.new.objects found.new.notes.items) }
-    ensures why { (s : ShelfView) (plan : Option PlanFile)
+    ensures why { (s : ShelfView) (plan : Option GivenPlan)
         → Loading asked.now printer.now plan number s
         (S.shows shelf.old) found.old.objects found.old.notes.items
         → IfErr result (Explains asked.now s (S.shows shelf.new)) }
@@ -186,11 +177,11 @@ pub fn load_meshes<S: Shelf>(
     printer: &Printer,
     shelf: &mut S,
 ) -> Result<Found, Stop>
-    ensures all { (s : ShelfView) (plan : Option PlanFile)
+    ensures all { (s : ShelfView) (plan : Option GivenPlan)
         → Loading asked.now printer.now plan 0 s (S.shows shelf.old) [] []
         → IfOk result (λ found. Loading asked.now printer.now plan (length asked.now.meshes)
         s (S.shows shelf.new) found.objects found.notes.items) }
-    ensures why { (s : ShelfView) (plan : Option PlanFile)
+    ensures why { (s : ShelfView) (plan : Option GivenPlan)
         → Loading asked.now printer.now plan 0 s (S.shows shelf.old) [] []
         → IfErr result (Explains asked.now s (S.shows shelf.new)) }
 {

@@ -1,7 +1,10 @@
 ghost use Rattle.std.specs.Prelude.{◌≡◌};
+ghost use Rattle.run_files.specs.Stops.{stop_of, unfit_stop};
 
+use cert_text::CertRead;
 use plan_text::PlanRead;
 use printer_text::Prn;
+use seq_io::ReadAll;
 use std::alloc::AllocError;
 use stl_text::Stl;
 
@@ -20,6 +23,8 @@ pub enum Cause {
     TooLong,
     Printer(Prn),
     Plan(PlanRead),
+    /// Of the tree block behind a plan's own lines.
+    Block(CertRead),
     Stl(Stl),
     /// A strict run, and edges are open or the volume isn't positive.
     NotClosed { open_edges: u64, six_volume: i128 },
@@ -37,11 +42,32 @@ pub enum Stop {
     Memory,
 }
 
-/// Why a mesh that was read can't be used.
+/// Why a file that was read can't be used.
 #[derive(Debug, Drop)]
 pub enum Unfit {
     Because(Cause),
     NoMemory,
+}
+
+/// The stop at a file that wasn't read.
+pub fn stop_of(file: NamedFile, why: ReadAll) -> Stop
+    ensures { result ≡ stop_of file why }
+{
+    match why {
+        ReadAll::ReadFault => Stop::Read(file),
+        ReadAll::TooLong => Stop::Input(file, Cause::TooLong),
+        ReadAll::NoMemory => Stop::Memory,
+    }
+}
+
+/// The stop at a file that was read and can't be used.
+pub fn stop_at(file: NamedFile, why: Unfit) -> Stop
+    ensures { result ≡ unfit_stop file why }
+{
+    match why {
+        Unfit::Because(cause) => Stop::Input(file, cause),
+        Unfit::NoMemory => Stop::Memory,
+    }
 }
 
 impl From<AllocError> for Unfit {

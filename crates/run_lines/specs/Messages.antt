@@ -2,10 +2,14 @@
 --
 --   words_line why       the line of refused words
 --   key_text fault key n a fault of this key in the top table (n = 0) or in listed part n - 1
+--   line_text words line what   what a line of a plan or of its tree block should have been
 --   plan_text e          why bytes are no plan
+--   block_text e         why those behind a plan's lines are no tree block
 --   detail_of file c     the end of the line of a refused file
 --   line_of a stop       the line
 use Rattle.std.specs.Prelude.{ℕ, zero, suc, pos, List, [], ◌++◌, codes}
+use Rattle.cert_text.specs.declared.block.CertRead.{CertRead}
+use Rattle.cert_text.specs.declared.block.CertRead.TheVariants as Blocks
 use Rattle.decimal_lengths.specs.declared.Decimal.{Decimal}
 use Rattle.decimal_lengths.specs.declared.Decimal.TheVariants as Decimals
 use Rattle.mesh_notes.specs.Notes.{looks_text}
@@ -30,21 +34,18 @@ use Rattle.run_files.specs.declared.stop.NamedFile.TheVariants.{Printer, Plan, M
 use Rattle.run_files.specs.declared.stop.Stop.{Stop}
 use Rattle.run_files.specs.declared.stop.Stop.TheVariants.{Read, Input, Memory}
 use Rattle.run_files.specs.declared.words.Asked.{Asked}
-use Rattle.run_files.specs.declared.words.Misworded.{Misworded}
-use Rattle.run_files.specs.declared.words.Misworded.TheVariants.{Refused, NotBuilt}
 
 abbrev pub memory_line : List ℕ
 memory_line = codes "memory\n"
 
-abbrev pub words_line : Misworded → List ℕ
-words_line (Refused Words.Unknown) = codes "words: unknown command\n"
-words_line (Refused Words.Usage) = codes "words: usage\n"
-words_line (Refused (Words.BadNumber Opt.Budget)) = codes "words: bad number for --budget\n"
-words_line (Refused (Words.BadNumber Opt.K)) = codes "words: bad number for K\n"
-words_line (Refused (Words.BadNumber Opt.N)) = codes "words: bad number for N\n"
-words_line (Refused Words.TooMany) = codes "words: more than 16 meshes\n"
-words_line (Refused Words.NoMemory) = memory_line
-words_line NotBuilt = codes "words: not yet\n"
+abbrev pub words_line : Words → List ℕ
+words_line Words.Unknown = codes "words: unknown command\n"
+words_line Words.Usage = codes "words: usage\n"
+words_line (Words.BadNumber Opt.Budget) = codes "words: bad number for --budget\n"
+words_line (Words.BadNumber Opt.K) = codes "words: bad number for K\n"
+words_line (Words.BadNumber Opt.N) = codes "words: bad number for N\n"
+words_line Words.TooMany = codes "words: more than 16 meshes\n"
+words_line Words.NoMemory = memory_line
 
 -- why a word is no length
 abbrev pub decimal_text : Decimal → List ℕ
@@ -97,15 +98,26 @@ what_text Whats.Node = codes "node"
 what_text Whats.Range = codes "range"
 what_text Whats.After = codes "after the end"
 
-unfoldable pub plan_line_text : ℕ → What → List ℕ
-plan_line_text line what = codes "plan line " ++ (spelling (pos line) ++ (codes ": " ++ what_text what))
+unfoldable pub line_text : List ℕ → ℕ → What → List ℕ
+line_text words line what = words ++ (spelling (pos line) ++ (codes ": " ++ what_text what))
 
 -- why bytes are no plan; want of memory is told by a line of its own
 abbrev pub plan_text : PlanRead → List ℕ
-plan_text (Reads.Line line what) = plan_line_text line what
+plan_text (Reads.Line line what) = line_text (codes "plan line ") line what
 plan_text Reads.Missing = codes "plan ends early"
 plan_text Reads.Trailing = codes "bytes after the plan"
 plan_text Reads.NoMemory = []
+
+unfoldable pub refused_line : ℕ → List ℕ → List ℕ
+refused_line line fault = codes "tree line " ++ (spelling (pos line) ++ fault)
+
+-- why the bytes behind a plan's lines are no tree block; want of memory is told by a line of its own
+abbrev pub block_text : CertRead → List ℕ
+block_text (Blocks.Line line what) = line_text (codes "tree line ") line what
+block_text (Blocks.Big line) = refused_line line (codes ": big")
+block_text (Blocks.Deep line) = refused_line line (codes ": deep")
+block_text Blocks.Truncated = codes "tree ends early"
+block_text Blocks.NoMemory = []
 
 abbrev pub detail_of : NamedFile → Cause → List ℕ
 detail_of Printer Causes.TooLong = codes "longer than 1048576 bytes"
@@ -113,6 +125,7 @@ detail_of Plan Causes.TooLong = codes "longer than 268435456 bytes"
 detail_of (Mesh k) Causes.TooLong = codes "longer than 67108864 bytes"
 detail_of file (Causes.Printer e) = prn_text e
 detail_of file (Causes.Plan e) = plan_text e
+detail_of file (Causes.Block e) = block_text e
 detail_of file (Causes.Stl e) = stl_text e
 detail_of file (Causes.NotClosed edges volume) = codes "not a closed outward mesh: " ++ looks_text edges volume
 detail_of file Causes.Flat = codes "no facet is left"

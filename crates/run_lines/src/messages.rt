@@ -1,13 +1,14 @@
 ghost use Rattle.std.specs.Prelude.{◌≡◌, ◌++◌, pos, codes, IfOk, OnOk};
 ghost use Rattle.seq_num.specs.Spelling.{spelling};
 ghost use Rattle.mesh_notes.specs.Notes.{looks_text};
-ghost use Rattle.run_lines.specs.Messages.{decimal_text, detail_of, input_line, key_text, plan_line_text, plan_text, prn_text, stl_text, table_text, what_text, words_line};
+ghost use Rattle.run_lines.specs.Messages.{block_text, decimal_text, detail_of, input_line, key_text, line_text, plan_text, prn_text, refused_line, stl_text, table_text, what_text, words_line};
 
+use cert_text::CertRead;
 use decimal_lengths::Decimal;
 use mesh_notes::put_looks;
 use plan_text::PlanRead;
 use printer_text::{Prn, key_text as spelled};
-use run_files::{Cause, Misworded, NamedFile};
+use run_files::{Cause, NamedFile};
 use seq_model::What;
 use seq_words::{Opt, Words};
 use std::alloc::{AllocError, Global};
@@ -15,18 +16,17 @@ use stl_text::{Stl, text_of};
 use text_lines::put_number;
 
 /// The line of refused words.
-pub fn words_line(why: Misworded) -> &'static [u8]
+pub fn words_line(why: Words) -> &'static [u8]
     ensures { result.now ≡ words_line why }
 {
     match why {
-        Misworded::Refused(Words::Unknown) => b"words: unknown command\n",
-        Misworded::Refused(Words::Usage) => b"words: usage\n",
-        Misworded::Refused(Words::BadNumber(Opt::Budget)) => b"words: bad number for --budget\n",
-        Misworded::Refused(Words::BadNumber(Opt::K)) => b"words: bad number for K\n",
-        Misworded::Refused(Words::BadNumber(Opt::N)) => b"words: bad number for N\n",
-        Misworded::Refused(Words::TooMany) => b"words: more than 16 meshes\n",
-        Misworded::Refused(Words::NoMemory) => b"memory\n",
-        Misworded::NotBuilt => b"words: not yet\n",
+        Words::Unknown => b"words: unknown command\n",
+        Words::Usage => b"words: usage\n",
+        Words::BadNumber(Opt::Budget) => b"words: bad number for --budget\n",
+        Words::BadNumber(Opt::K) => b"words: bad number for K\n",
+        Words::BadNumber(Opt::N) => b"words: bad number for N\n",
+        Words::TooMany => b"words: more than 16 meshes\n",
+        Words::NoMemory => b"memory\n",
     }
 }
 
@@ -79,7 +79,7 @@ fn put_stl(to: &mut Vec<u8>, e: Stl) -> Result<(), AllocError>
     }
 }
 
-// Appends what a line of a plan should have been.
+// Appends what a line should have been.
 fn put_what(to: &mut Vec<u8>, what: What) -> Result<(), AllocError>
     ensures { OnOk result (to.new.items ≡ to.old.items ++ what_text what) }
 {
@@ -97,12 +97,12 @@ fn put_what(to: &mut Vec<u8>, what: What) -> Result<(), AllocError>
     }
 }
 
-// Appends the number of a line of a plan, and what it should have been.
-#[tactic(auto, unfolding(crate::specs::Messages::plan_line_text))]
-fn put_plan_line(to: &mut Vec<u8>, line: u64, what: What) -> Result<(), AllocError>
-    ensures { OnOk result (to.new.items ≡ to.old.items ++ plan_line_text line what) }
+// Appends the number of a line, and what it should have been.
+#[tactic(auto, unfolding(crate::specs::Messages::line_text))]
+fn put_line(to: &mut Vec<u8>, words: &[u8], line: u64, what: What) -> Result<(), AllocError>
+    ensures { OnOk result (to.new.items ≡ to.old.items ++ line_text words.now line what) }
 {
-    put_number(to, b"plan line ", i128::from(line))?;
+    put_number(to, words, i128::from(line))?;
     to.extend_from_slice(b": ")?;
     put_what(to, what)
 }
@@ -112,10 +112,32 @@ fn put_plan(to: &mut Vec<u8>, e: PlanRead) -> Result<(), AllocError>
     ensures { OnOk result (to.new.items ≡ to.old.items ++ plan_text e) }
 {
     match e {
-        PlanRead::Line(line, what) => put_plan_line(to, line, what),
+        PlanRead::Line(line, what) => put_line(to, b"plan line ", line, what),
         PlanRead::Missing => to.extend_from_slice(b"plan ends early"),
         PlanRead::Trailing => to.extend_from_slice(b"bytes after the plan"),
         PlanRead::NoMemory => Ok(()),
+    }
+}
+
+// Appends the number of a line of a tree block, and what is wrong with it.
+#[tactic(auto, unfolding(crate::specs::Messages::refused_line))]
+fn put_refused_line(to: &mut Vec<u8>, line: u64, fault: &[u8]) -> Result<(), AllocError>
+    ensures { OnOk result (to.new.items ≡ to.old.items ++ refused_line line fault.now) }
+{
+    put_number(to, b"tree line ", i128::from(line))?;
+    to.extend_from_slice(fault)
+}
+
+// Appends why bytes are no tree block.
+fn put_block(to: &mut Vec<u8>, e: CertRead) -> Result<(), AllocError>
+    ensures { OnOk result (to.new.items ≡ to.old.items ++ block_text e) }
+{
+    match e {
+        CertRead::Line(line, what) => put_line(to, b"tree line ", line, what),
+        CertRead::Big(line) => put_refused_line(to, line, b": big"),
+        CertRead::Deep(line) => put_refused_line(to, line, b": deep"),
+        CertRead::Truncated => to.extend_from_slice(b"tree ends early"),
+        CertRead::NoMemory => Ok(()),
     }
 }
 
@@ -188,6 +210,7 @@ fn put_detail(to: &mut Vec<u8>, file: NamedFile, cause: &Cause) -> Result<(), Al
         Cause::TooLong => to.extend_from_slice(too_long(file)),
         Cause::Printer(e) => put_prn(to, e),
         Cause::Plan(e) => put_plan(to, *e),
+        Cause::Block(e) => put_block(to, *e),
         Cause::Stl(e) => put_stl(to, *e),
         Cause::NotClosed {
             open_edges,

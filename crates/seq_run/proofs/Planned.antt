@@ -1,20 +1,26 @@
 -- What the search of a job answers is what `arrange` prints of its files, and the bands of its one object what `slices` does.
-use Rattle.std.proofs.Common.{◌≡◌, ℕ, ◌<◌, ◌≤◌, Bool, List, [], ◌∷◌, length, get_or, Option, ◌⊎◌, inl, inr, refl, sym, ap, subst, arith}
+use Rattle.std.proofs.Common.{◌≡◌, ℕ, ◌-◌, ◌<◌, ◌≤◌, Bool, List, [], ◌∷◌, length, get_or, Option, ◌⊎◌, inl, inr, refl, sym, ap, subst, arith}
 use Rattle.std.proofs.lemmas.Bool.{cases_lt}
 use Rattle.std.specs.List.{AllZip}
+use Rattle.answer_checks.specs.Laws.Passing.{least_passes, refuted_passes}
 use Rattle.answer_laws.specs.Laws.OfFiles.{none_of_files}
-use Rattle.decision_text.specs.DecisionText.{decision_text, file_of}
-use Rattle.decision_text.specs.Laws.Spelled.{decision_stated}
+use Rattle.decision_text.specs.DecisionText.{decision_text, file_for, file_of, outcome_text, statement_for, statement_of}
+use Rattle.decision_text.specs.Laws.Spelled.{decision_stated, outcome_stated}
 use Rattle.model_laws.specs.Laws.Reading.{reads_weaker}
 use Rattle.node_looks.specs.Looks.{HasZeroPlan}
 use Rattle.plan_text.specs.PlanText.{IsPlanFile}
-use Rattle.plan_text.specs.declared.file.PlanFile.{PlanFile}
+use Rattle.plate_shrink.specs.Outcomes.{IsBudgetCause, IsBudgetOutcome, IsOutcome}
+use Rattle.plate_shrink.specs.declared.outcome.Cause.{Cause}
+use Rattle.plate_shrink.specs.declared.outcome.Cause.TheVariants as Causes
+use Rattle.plate_shrink.specs.declared.outcome.Outcome.{Outcome}
+use Rattle.plate_shrink.specs.declared.outcome.Outcome.TheVariants as Outcomes
 use Rattle.refinement_loop.specs.Decisions.{IsDecision, IsRefutation, IsSpent, IsSpentDecision, IsWideEnd, IsZeroDecision}
 use Rattle.refinement_loop.specs.declared.deciding.Decision.{Decision}
 use Rattle.refinement_loop.specs.declared.deciding.Decision.TheVariants as Decisions
 use Rattle.run_files.specs.Files.{NamedMesh, facets_of}
 use Rattle.run_files.specs.Jobs.{IsJobOf, IsObjectFor}
-use Rattle.run_files.specs.Laws.Made.{made_from, same_plans}
+use Rattle.run_files.specs.Laws.Made.{least_of_files, made_from, same_plans}
+use Rattle.run_files.specs.declared.plans.GivenPlan.{GivenPlan}
 use Rattle.run_files.specs.declared.words.Task.TheVariants as Tasks
 use Rattle.seq_model.specs.Budgets.{Full}
 use Rattle.seq_model.specs.Scenes.{Description, Valid, scene_of_files}
@@ -25,8 +31,9 @@ use Rattle.seq_model.specs.declared.job.Object.{Object}
 use Rattle.seq_model.specs.declared.plan.Plan.{Plan}
 use Rattle.seq_model.specs.declared.tree.Tree.{Tree}
 use Rattle.seq_model.specs.declared.tree.WideNote.{WideNote}
-use Rattle.seq_run.specs.Planning.{PrintsFor, verdict_for}
-use Rattle.seq_run.specs.Printed.{PrintsNone, PrintsPlan, PrintsSlices, PrintsSpent, PrintsWide}
+use Rattle.seq_run.specs.Arranged.{PassesCheck, PrintsLeast, PrintsNone, PrintsOpen, PrintsPlan, PrintsSpent, PrintsWide}
+use Rattle.seq_run.specs.Planning.{PrintsFor, verdict_of_decision, verdict_of_outcome}
+use Rattle.seq_run.specs.Printed.{PrintsSlices}
 use Rattle.seq_run.specs.declared.status.Verdict.TheVariants as Verdicts
 use Rattle.slice_text.specs.SlicesText.{slices_text}
 
@@ -66,6 +73,7 @@ module _ (budget : ℕ) (job : Job) (text : List ℕ) (d : Description) (meshes 
     job = job;
     is_job = j;
     refuted = subst (λ n. IsRefutation job n budget tree) grid r;
+    passes = subst (λ n. PassesCheck job (statement_of n (Decisions.Refuted tree)) n) grid (refuted_passes job budget tree r);
   }
 
   spent : (tree : Tree) → IsDecision job job.printer.grid budget (Decisions.Spent tree) → ((full : ℕ) → Full job full → full ≤ budget → ⊥) → text ≡ decision_text job.printer.grid (Decisions.Spent tree) → PrintsSpent d meshes budget text
@@ -88,8 +96,36 @@ module _ (budget : ℕ) (job : Job) (text : List ℕ) (d : Description) (meshes 
     end = subst (λ n. IsWideEnd job n note tree) grid w;
   }
 
-pub decision_for : (strict : Bool) (budget : ℕ) (plan : Option PlanFile) (job : Job) (text : List ℕ) (decision : Decision) → IsDecision job job.printer.grid budget decision → (HasZeroPlan job job.printer.grid → IsZeroDecision job job.printer.grid decision)
-    → ((full : ℕ) → Full job full → full ≤ budget → IsSpentDecision decision → ⊥) → text ≡ decision_text job.printer.grid decision → PrintsFor (Tasks.Arrange strict budget) job plan (verdict_for decision) text
+  least : (plan : Plan) (e : ℕ) (tree : Option Tree) → IsOutcome job budget (Outcomes.Least plan e tree) → text ≡ outcome_text job.printer.grid (Outcomes.Least plan e tree) → PrintsLeast d meshes budget text
+  least plan e tree o is = record {
+    plan = plan;
+    extent = e;
+    valid = (same_plans d meshes job j e plan).1 o.found.valid;
+    least = least_of_files d meshes job j e o.least;
+    tree = tree;
+    is = subst (λ n. text ≡ outcome_text n (Outcomes.Least plan e tree)) grid is;
+    job = job;
+    is_job = j;
+    outcome = o;
+    passes = subst (λ n. PassesCheck job (statement_for n (Outcomes.Least plan e tree)) (e - 1)) grid (least_passes job budget plan e tree o);
+  }
+
+  still_open : (plan : Plan) (e : ℕ) (cause : Cause) → IsOutcome job budget (Outcomes.Unproved plan e cause) → (IsBudgetCause cause → (full : ℕ) → Full job full → full ≤ budget → ⊥)
+      → text ≡ outcome_text job.printer.grid (Outcomes.Unproved plan e cause) → PrintsOpen d meshes budget text
+  still_open plan e cause o never is = record {
+    plan = plan;
+    extent = e;
+    valid = (same_plans d meshes job j e plan).1 o.found.valid;
+    cause = cause;
+    is = subst (λ n. text ≡ outcome_text n (Outcomes.Unproved plan e cause)) grid is;
+    job = job;
+    is_job = j;
+    outcome = o;
+    below_full = λ spent full f. above budget full (never spent full f);
+  }
+
+pub decision_for : (strict : Bool) (budget : ℕ) (plan : Option GivenPlan) (job : Job) (text : List ℕ) (decision : Decision) → IsDecision job job.printer.grid budget decision → (HasZeroPlan job job.printer.grid → IsZeroDecision job job.printer.grid decision)
+    → ((full : ℕ) → Full job full → full ≤ budget → IsSpentDecision decision → ⊥) → text ≡ decision_text job.printer.grid decision → PrintsFor (Tasks.Arrange strict budget) job plan (verdict_of_decision decision) text
 decision_for strict budget plan job text (Decisions.Found p) is zero unspent written = record { each = λ inputs j same. found budget job text inputs.description inputs.meshes j p is zero written }
 decision_for strict budget plan job text (Decisions.Refuted tree) is zero unspent written = record { each = λ inputs j same. none budget job text inputs.description inputs.meshes j tree is written }
 decision_for strict budget plan job text (Decisions.Spent tree) is zero unspent written = record { each = λ inputs j same. inl (spent budget job text inputs.description inputs.meshes j tree is (λ full f within. unspent full f within tt) written) }
@@ -97,6 +133,20 @@ decision_for strict budget plan job text (Decisions.Wide note tree) is zero unsp
 
 pub decision_file : (job : Job) (budget : ℕ) (decision : Decision) → IsDecision job job.printer.grid budget decision → IsPlanFile (file_of job.printer.grid decision)
 decision_file job budget decision is = (decision_stated job budget decision is).plan.spelled
+
+-- ---- outcomes
+pub outcome_for : (strict : Bool) (budget : ℕ) (plan : Option GivenPlan) (job : Job) (text : List ℕ) (outcome : Outcome) → IsOutcome job budget outcome
+    → ((full : ℕ) → Full job full → full ≤ budget → IsBudgetOutcome outcome → ⊥) → text ≡ outcome_text job.printer.grid outcome → PrintsFor (Tasks.Least strict budget) job plan (verdict_of_outcome outcome) text
+outcome_for strict budget plan job text (Outcomes.Least p e tree) is unspent written = record { each = λ inputs j same. least budget job text inputs.description inputs.meshes j p e tree is written }
+outcome_for strict budget plan job text (Outcomes.NoPlan tree) is unspent written = record { each = λ inputs j same. none budget job text inputs.description inputs.meshes j tree is written }
+outcome_for strict budget plan job text (Outcomes.Unproved p e cause) is unspent written =
+    record { each = λ inputs j same. still_open budget job text inputs.description inputs.meshes j p e cause is (λ spent full f within. unspent full f within spent) written }
+outcome_for strict budget plan job text (Outcomes.Undecided (Causes.Budget tree)) is unspent written =
+    record { each = λ inputs j same. inl (spent budget job text inputs.description inputs.meshes j tree is (λ full f within. unspent full f within tt) written) }
+outcome_for strict budget plan job text (Outcomes.Undecided (Causes.Wide note tree)) is unspent written = record { each = λ inputs j same. inr (wide budget job text inputs.description inputs.meshes j note tree is written) }
+
+pub outcome_file : (job : Job) (budget : ℕ) (outcome : Outcome) → IsOutcome job budget outcome → IsPlanFile (file_for job.printer.grid outcome)
+outcome_file job budget outcome is = (outcome_stated job budget outcome is).plan.spelled
 
 -- ---- one object
 -- the meshes of a job of one object
@@ -114,7 +164,7 @@ job_mesh : (d : Description) (meshes : List NamedMesh) (job : Job) (object : Obj
 job_mesh d meshes job object one j = lone_mesh (IsObjectFor job.printer) meshes object (subst (AllZip (IsObjectFor job.printer) meshes) one j.objects)
 
 -- the bands of the one object
-pub slices_for : (plan : Option PlanFile) (job : Job) (object : Object) (text : List ℕ) → job.objects ≡ object ∷ [] → text ≡ slices_text object → PrintsFor Tasks.Slices job plan Verdicts.Done text
+pub slices_for : (plan : Option GivenPlan) (job : Job) (object : Object) (text : List ℕ) → job.objects ≡ object ∷ [] → text ≡ slices_text object → PrintsFor Tasks.Slices job plan Verdicts.Done text
 slices_for plan job object text one is = record { each = λ inputs j same. by inputs.description inputs.meshes j }
   where
     by : (d : Description) (meshes : List NamedMesh) → IsJobOf d meshes job → PrintsSlices d meshes text

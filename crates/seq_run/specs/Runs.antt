@@ -2,36 +2,28 @@
 -- the run, `e` and `e'` what `err` did, `o` and `o'` what `out` did.
 --
 --   IsMisworded words s s' e e'          status 2: the words are refused, no file was started, and `err` took their line
---   IsAnswered v a s s' e e' o o'        status 0, 1, 6 and 7: `err` took the notes, and `out` the whole text of an answer
+--   IsAnswered v a s s' e e' o o'        `err` took the notes, and `out` the whole text of an answer over the files
+--   IsTried v objects seed o o'          `out` took the whole text of a trial
+--   HasAnswered v words s s' e e' o o'   status 0, 1, 5, 6 and 7: one of these; a trial leaves the shelf and `err` alone
 --   IsUnreadFile a s s' e e'             status 3: reading failed at this file that the words name, and `err` took its line
 --   IsWrongFile a s s' e e'              status 4: the first file that can't be used is refused, and `err` took its line
---   IsUsable files a                     all files can be used
---   HasNoPlan files a                    they can, and no plan is valid for them
---   IsEnough job e budget, HasEnough files a   the budget is enough to decide the extent; and so for the job of the files
---   HasFault files a                     they can, and the plan that is to be audited isn't valid for them
 --   WordsBroke, ErrBroke, OutBroke       status 8: a sink failed within the line of refused words; within the line of a stop or
 --                                        the notes of an answer; within its text
 --   LineBroke, NotesBroke                the two cases of ErrBroke
+--   TrialBroke objects seed o o'         status 8: `out` failed within the text of a trial
 --   IsWanting words s s' e e'            status 9: memory was wanting, and `err` took its line
---   IsUnwritten words s s' e e' o o'     status 8: the three cases; `out` is written after `err`
+--   IsUnwritten words s s' e e' o o'     status 8: the four cases; `out` is written after `err`
 --   Ends words s s' e e' o o' status     what each status says
-use Rattle.std.specs.Prelude.{◌≡◌, ◌⊎◌, ◌≤◌, ℕ, Bool, List, Option, Some, Err}
-use Rattle.plan_text.specs.declared.file.PlanFile.{PlanFile}
-use Rattle.refinement_loop.specs.Decisions.{HasNoWideWalk}
-use Rattle.run_files.specs.Jobs.{IsJobOf}
+use Rattle.std.specs.Prelude.{◌≡◌, ◌⊎◌, ℕ, List, Err}
 use Rattle.seq_io.specs.Taken.{BrokeIn, Wrote}
 use Rattle.seq_io.specs.Views.{ShelfView, SinkView}
-use Rattle.seq_io.specs.declared.mem_file.MemFile.{MemFile}
-use Rattle.seq_model.specs.Budgets.{Full}
-use Rattle.seq_model.specs.Scenes.{Valid}
-use Rattle.seq_model.specs.declared.job.Job.{Job}
-use Rattle.seq_model.specs.declared.plan.Plan.{Plan}
 use Rattle.seq_words.specs.declared.command.Words.TheVariants.{NoMemory}
-use Rattle.run_files.specs.Files.{AreUsable, Inputs, name_in}
+use Rattle.run_files.specs.Files.{name_in}
 use Rattle.run_lines.specs.Messages.{words_line, read_line, input_line, line_of, memory_line}
-use Rattle.seq_run.specs.Printed.{Answers, IsGoodPlan, scene_of}
+use Rattle.seq_run.specs.Printed.{Answers}
+use Rattle.seq_run.specs.Tried.{PrintsTrial}
 use Rattle.run_files.specs.Stops.{Explains, FailedAt, IsUntouched, ReadUpTo, RefusedAt, WantsMemory, last_of}
-use Rattle.run_files.specs.Words.{Asks, requested}
+use Rattle.run_files.specs.Words.{Asks, Tries, requested}
 use Rattle.seq_run.specs.declared.status.Status.{Status}
 use Rattle.seq_run.specs.declared.status.Status.TheVariants as Statuses
 use Rattle.seq_run.specs.declared.status.Verdict.{Verdict}
@@ -39,12 +31,10 @@ use Rattle.run_files.specs.declared.stop.Cause.{Cause}
 use Rattle.run_files.specs.declared.stop.NamedFile.{NamedFile}
 use Rattle.run_files.specs.declared.stop.Stop.{Stop}
 use Rattle.run_files.specs.declared.words.Asked.{Asked}
-use Rattle.run_files.specs.declared.words.Misworded.{Misworded}
-use Rattle.run_files.specs.declared.words.Misworded.TheVariants.{Refused}
-use Rattle.run_files.specs.declared.words.Task.TheVariants.{Arrange, Audit}
+use Rattle.seq_words.specs.declared.command.Words.{Words}
 
 pub record IsMisworded (words : List (List ℕ)) (s s' : ShelfView) (e e' : SinkView) : Type 0 where
-  pub why : Misworded
+  pub why : Words
   pub refused : requested words ≡ Err why
   pub shelf : IsUntouched s s'
   pub err : Wrote (words_line why) e e'
@@ -56,6 +46,15 @@ pub record IsAnswered (verdict : Verdict) (a : Asked) (s s' : ShelfView) (e e' o
   pub read : ReadUpTo a (last_of a) s s'
   pub err : Wrote notes e e'
   pub out : Wrote text o o'
+
+pub record IsTried (verdict : Verdict) (objects seed : ℕ) (o o' : SinkView) : Type 0 where
+  pub text : List ℕ
+  pub prints : PrintsTrial objects seed verdict text
+  pub out : Wrote text o o'
+
+abbrev pub HasAnswered : Verdict → List (List ℕ) → ShelfView → ShelfView → SinkView → SinkView → SinkView → SinkView → Type 0
+HasAnswered verdict words s s' e e' o o' =
+    Asks words (λ a. IsAnswered verdict a s s' e e' o o') ⊎ (Tries words (λ objects seed. IsTried verdict objects seed o o') × (e' ≡ e) × IsUntouched s s')
 
 pub record IsUnreadFile (a : Asked) (s s' : ShelfView) (e e' : SinkView) : Type 0 where
   pub file : NamedFile
@@ -72,47 +71,9 @@ pub record IsWanting (words : List (List ℕ)) (s s' : ShelfView) (e e' : SinkVi
   pub wanting : IsUntouched s s' ⊎ Asks words (λ a. WantsMemory a s s')
   pub err : Wrote memory_line e e'
 
-pub record IsUsable (files : Option (List MemFile)) (a : Asked) : Type 0 where
-  pub inputs : Inputs
-  pub usable : AreUsable files a inputs
-
--- the files can be used, and no plan is valid for them, on the whole plate or at a smaller extent
-pub record HasNoPlan (files : Option (List MemFile)) (a : Asked) : Type 0 where
-  pub strict : Bool
-  pub budget : ℕ
-  pub arranges : a.task ≡ Arrange strict budget
-  pub inputs : Inputs
-  pub usable : AreUsable files a inputs
-  pub none : (e : ℕ) (plan : Plan) → Valid (scene_of inputs) e plan → ⊥
-
--- the budget is at least that which is always enough, and no walk of a path of the job ends wide
-pub record IsEnough (job : Job) (e budget : ℕ) : Type 0 where
-  pub full : ℕ
-  pub is_full : Full job full
-  pub within : full ≤ budget
-  pub narrow : HasNoWideWalk job e
-
--- the files can be used, and the budget is enough for their job
-pub record HasEnough (files : Option (List MemFile)) (a : Asked) : Type 0 where
-  pub strict : Bool
-  pub budget : ℕ
-  pub arranges : a.task ≡ Arrange strict budget
-  pub inputs : Inputs
-  pub usable : AreUsable files a inputs
-  pub enough : (job : Job) → IsJobOf inputs.description inputs.meshes job → IsEnough job inputs.description.grid budget
-
--- the files can be used, and the plan among them, that is to be audited, isn't valid on the whole plate
-pub record HasFault (files : Option (List MemFile)) (a : Asked) : Type 0 where
-  pub audits : a.task ≡ Audit
-  pub inputs : Inputs
-  pub usable : AreUsable files a inputs
-  pub file : PlanFile
-  pub named : inputs.plan ≡ Some file
-  pub not_good : IsGoodPlan inputs file → ⊥
-
 pub record WordsBroke (words : List (List ℕ)) (s s' : ShelfView) (e e' : SinkView) : Type 0 where
-  pub why : Misworded
-  pub refused : (why ≡ Refused NoMemory) ⊎ (requested words ≡ Err why)
+  pub why : Words
+  pub refused : (why ≡ NoMemory) ⊎ (requested words ≡ Err why)
   pub shelf : IsUntouched s s'
   pub broke : BrokeIn (words_line why) e e'
 
@@ -143,15 +104,22 @@ pub record OutBroke (a : Asked) (s s' : ShelfView) (e e' o o' : SinkView) : Type
   pub err : Wrote notes e e'
   pub broke : BrokeIn text o o'
 
--- each case but the last with `out` as it was
+pub record TrialBroke (objects seed : ℕ) (o o' : SinkView) : Type 0 where
+  pub verdict : Verdict
+  pub text : List ℕ
+  pub prints : PrintsTrial objects seed verdict text
+  pub broke : BrokeIn text o o'
+
+-- the first two cases with `out` as it was
 abbrev pub IsUnwritten : List (List ℕ) → ShelfView → ShelfView → SinkView → SinkView → SinkView → SinkView → Type 0
 IsUnwritten words s s' e e' o o' =
     (WordsBroke words s s' e e' × (o' ≡ o))
     ⊎ (Asks words (λ a. ErrBroke a s s' e e') × (o' ≡ o))
     ⊎ Asks words (λ a. OutBroke a s s' e e' o o')
+    ⊎ (Tries words (λ objects seed. TrialBroke objects seed o o') × (e' ≡ e) × IsUntouched s s')
 
 abbrev pub Ends : List (List ℕ) → ShelfView → ShelfView → SinkView → SinkView → SinkView → SinkView → Status → Type 0
-Ends words s s' e e' o o' (Statuses.Answered verdict) = Asks words (λ a. IsAnswered verdict a s s' e e' o o')
+Ends words s s' e e' o o' (Statuses.Answered verdict) = HasAnswered verdict words s s' e e' o o'
 Ends words s s' e e' o o' Statuses.WrongWords = IsMisworded words s s' e e' × (o' ≡ o)
 Ends words s s' e e' o o' Statuses.ReadFault = Asks words (λ a. IsUnreadFile a s s' e e') × (o' ≡ o)
 Ends words s s' e e' o o' Statuses.WrongFile = Asks words (λ a. IsWrongFile a s s' e e') × (o' ≡ o)
@@ -167,11 +135,20 @@ AskedEnds a s s' e e' o o' Statuses.WrongFile = IsWrongFile a s s' e e' × (o' �
 AskedEnds a s s' e e' o o' Statuses.WriteFault = (ErrBroke a s s' e e' × (o' ≡ o)) ⊎ OutBroke a s s' e e' o o'
 AskedEnds a s s' e e' o o' Statuses.NoMemory = (WantsMemory a s s' × Wrote memory_line e e') × (o' ≡ o)
 
+-- of a trial
+abbrev pub TrialEnds : ℕ → ℕ → SinkView → SinkView → SinkView → SinkView → Status → Type 0
+TrialEnds objects seed e e' o o' (Statuses.Answered verdict) = IsTried verdict objects seed o o' × (e' ≡ e)
+TrialEnds objects seed e e' o o' Statuses.WrongWords = ⊥
+TrialEnds objects seed e e' o o' Statuses.ReadFault = ⊥
+TrialEnds objects seed e e' o o' Statuses.WrongFile = ⊥
+TrialEnds objects seed e e' o o' Statuses.WriteFault = (BrokeIn memory_line e e' × (o' ≡ o)) ⊎ (TrialBroke objects seed o o' × (e' ≡ e))
+TrialEnds objects seed e e' o o' Statuses.NoMemory = Wrote memory_line e e' × (o' ≡ o)
+
 -- and of words that are refused
-abbrev pub RefusalEnds : Misworded → SinkView → SinkView → Status → Type 0
+abbrev pub RefusalEnds : Words → SinkView → SinkView → Status → Type 0
 RefusalEnds why e e' (Statuses.Answered verdict) = ⊥
-RefusalEnds why e e' Statuses.WrongWords = (why ≡ Refused NoMemory → ⊥) × Wrote (words_line why) e e'
+RefusalEnds why e e' Statuses.WrongWords = (why ≡ NoMemory → ⊥) × Wrote (words_line why) e e'
 RefusalEnds why e e' Statuses.ReadFault = ⊥
 RefusalEnds why e e' Statuses.WrongFile = ⊥
 RefusalEnds why e e' Statuses.WriteFault = BrokeIn (words_line why) e e'
-RefusalEnds why e e' Statuses.NoMemory = (why ≡ Refused NoMemory) × Wrote memory_line e e'
+RefusalEnds why e e' Statuses.NoMemory = (why ≡ NoMemory) × Wrote memory_line e e'

@@ -15,6 +15,7 @@ use Rattle.run_files.specs.declared.stop.Stop.TheVariants as Stops
 abbrev pub code_of_verdict : Verdict → ℕ
 code_of_verdict Verdicts.Done = 0
 code_of_verdict Verdicts.NoPlan = 1
+code_of_verdict Verdicts.Open = 5
 code_of_verdict Verdicts.Undecided = 6
 code_of_verdict Verdicts.Fault = 7
 

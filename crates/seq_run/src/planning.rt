@@ -1,21 +1,25 @@
-ghost use Rattle.std.specs.Prelude.{◌≡◌, ◌≤◌, Option, Some, length, IfOk};
+ghost use Rattle.std.specs.Prelude.{◌≡◌, ◌≤◌, ◌<◌, ◌^◌, Option, Some, length, IfOk};
 ghost use Rattle.plan_text.specs.PlanText.{IsPlanFile};
-ghost use Rattle.plan_text.specs.declared.file.PlanFile.{PlanFile};
+ghost use Rattle.run_files.specs.declared.plans.GivenPlan.{GivenPlan};
 ghost use Rattle.run_files.specs.declared.words.Task.{Task};
-ghost use Rattle.seq_run.specs.Planning.{CanWorkOn, PrintsFor, verdict_for, verdict_of};
+ghost use Rattle.seq_run.specs.Planning.{CanBeJudged, CanWorkOn, PrintsFor, verdict_of_audit, verdict_of_claim, verdict_of_decision, verdict_of_outcome};
+ghost use Rattle.seq_run.specs.Tried.{PrintsTrial};
 
 use crate::Verdict;
 use audit_text::audit_text;
-use decision_text::decision_text;
+use check_text::check_text;
+use claim_checker::{Claim, claim};
+use decision_text::{decision_text, outcome_text};
 use owned_lists::Items;
 use plan_audit::{Verdict as Audit, audit};
-use plan_text::PlanFile;
+use plate_shrink::{Outcome, least};
 use refinement_loop::{Decision, decide};
-use run_files::Task;
+use run_files::{GivenPlan, Task, the_job_of_files_is_one};
 use seq_model::Job;
 use seq_num::NoMemory;
 use slice_text::slices_text;
 use std::alloc::Global;
+use trial_job::{summary_text, trial_job};
 
 /// What goes to `out`, and its verdict.
 #[derive(Debug, Drop)]
@@ -24,8 +28,8 @@ pub struct Printed {
     pub text: Items<u8>,
 }
 
-fn verdict_for(decision: &Decision) -> Verdict
-    ensures { result ≡ verdict_for decision.now }
+fn verdict_of_decision(decision: &Decision) -> Verdict
+    ensures { result ≡ verdict_of_decision decision.now }
 {
     match decision {
         Decision::Found(_) => Verdict::Done,
@@ -37,13 +41,40 @@ fn verdict_for(decision: &Decision) -> Verdict
 // A plan of a job on the whole plate, a certificate that there is none, or why that is undecided.
 fn arrange(alloc: Global, strict: bool, budget: u64, job: &Job) -> Result<Printed, NoMemory>
     requires { (1 ≤ budget) × (budget ≤ 1_000_000) }
-    ensures { (plan : Option PlanFile)
+    ensures { (plan : Option GivenPlan)
         → IfOk result (λ p. PrintsFor (Task.Arrange strict budget) job.now plan p.verdict p.text) }
 {
     let grid = job.printer.grid;
     let decision = decide(alloc, job, grid, budget)?;
-    let verdict = verdict_for(&decision);
+    let verdict = verdict_of_decision(&decision);
     let text = decision_text(alloc, grid, decision)?;
+    Ok(Printed {
+        verdict,
+        text: Items::from_vec(text),
+    })
+}
+
+fn verdict_of_outcome(outcome: &Outcome) -> Verdict
+    ensures { result ≡ verdict_of_outcome outcome.now }
+{
+    match outcome {
+        Outcome::Least { .. } => Verdict::Done,
+        Outcome::NoPlan(_) => Verdict::NoPlan,
+        Outcome::Unproved { .. } => Verdict::Open,
+        Outcome::Undecided(_) => Verdict::Undecided,
+    }
+}
+
+// A plan of a job at the least extent, with a certificate for the one below; a plan, and why the one below is undecided; or what
+// is said of the whole plate.
+fn shrink(alloc: Global, strict: bool, budget: u64, job: &Job) -> Result<Printed, NoMemory>
+    requires { (1 ≤ budget) × (budget ≤ 1_000_000) }
+    ensures { (plan : Option GivenPlan)
+        → IfOk result (λ p. PrintsFor (Task.Least strict budget) job.now plan p.verdict p.text) }
+{
+    let outcome = least(alloc, job, budget)?;
+    let verdict = verdict_of_outcome(&outcome);
+    let text = outcome_text(alloc, job.printer.grid, outcome)?;
     Ok(Printed {
         verdict,
         text: Items::from_vec(text),
@@ -53,7 +84,7 @@ fn arrange(alloc: Global, strict: bool, budget: u64, job: &Job) -> Result<Printe
 // The bands and outlines of a job's one object.
 fn slice(alloc: Global, job: &Job) -> Result<Printed, NoMemory>
     requires { length job.now.objects ≡ 1 }
-    ensures { (plan : Option PlanFile)
+    ensures { (plan : Option GivenPlan)
         → IfOk result (λ p. PrintsFor Task.Slices job.now plan p.verdict p.text) }
 {
     let object = &job.objects.as_slice()[0];
@@ -64,8 +95,8 @@ fn slice(alloc: Global, job: &Job) -> Result<Printed, NoMemory>
     })
 }
 
-fn verdict_of(audit: Audit) -> Verdict
-    ensures { result ≡ verdict_of audit }
+fn verdict_of_audit(audit: Audit) -> Verdict
+    ensures { result ≡ verdict_of_audit audit }
 {
     match audit {
         Audit::Good => Verdict::Done,
@@ -74,20 +105,62 @@ fn verdict_of(audit: Audit) -> Verdict
 }
 
 // Whether the plan of a file is valid on the whole plate, and else its first fault.
-fn audit_file(alloc: Global, job: &Job, file: &PlanFile) -> Result<Printed, NoMemory>
-    requires { IsPlanFile file.now }
-    ensures { IfOk result (λ p. PrintsFor Task.Audit job.now (Some file.now) p.verdict p.text) }
+fn audit_plan(alloc: Global, job: &Job, plan: &GivenPlan) -> Result<Printed, NoMemory>
+    requires { IsPlanFile plan.now.file }
+    ensures { IfOk result (λ p. PrintsFor Task.Audit job.now (Some plan.now) p.verdict p.text) }
 {
     let printer = &job.printer;
-    let found = audit(job, printer.grid, &file.plan);
+    let placed = &plan.file.plan;
+    let found = audit(job, printer.grid, placed);
     let text = audit_text(
         alloc,
         printer.parts.as_slice(),
-        file.plan.places.as_slice(),
+        placed.places.as_slice(),
         found,
     )?;
     Ok(Printed {
-        verdict: verdict_of(found),
+        verdict: verdict_of_audit(found),
+        text: Items::from_vec(text),
+    })
+}
+
+fn verdict_of_claim(claim: Claim) -> Verdict
+    ensures { result ≡ verdict_of_claim claim }
+{
+    match claim {
+        Claim::Passes(_) => Verdict::Done,
+        Claim::Fails(_) => Verdict::Fault,
+    }
+}
+
+// Whether the claim of a plan's file passes, and else what is wrong with it first. The law says that no other job of the files is judged
+// otherwise.
+fn check_plan(alloc: Global, job: &Job, plan: &GivenPlan) -> Result<Printed, NoMemory>
+    requires { CanBeJudged plan.now }
+    ensures { IfOk result (λ p. PrintsFor Task.Check job.now (Some plan.now) p.verdict p.text) }
+{
+    the_job_of_files_is_one();
+    let judged = claim(alloc, job, &plan.file, &plan.block)?;
+    let text = check_text(alloc, judged)?;
+    Ok(Printed {
+        verdict: verdict_of_claim(judged),
+        text: Items::from_vec(text),
+    })
+}
+
+/// The summary of a trial, and then what `arrange` prints of its job.
+pub fn try_out(alloc: Global, objects: u32, seed: u64) -> Result<Printed, NoMemory>
+    requires some { 1 ≤ objects }
+    requires few { objects ≤ 16 }
+    requires seed { seed < 2 ^ 32 }
+    ensures { IfOk result (λ p. PrintsTrial objects seed p.verdict p.text) }
+{
+    let trial = trial_job(alloc, objects, seed)?;
+    let arranged = arrange(alloc, false, 20_000, &trial.job)?;
+    let mut text = summary_text(alloc, objects, seed, &trial)?;
+    text.extend_from_slice(arranged.text.as_slice())?;
+    Ok(Printed {
+        verdict: arranged.verdict,
         text: Items::from_vec(text),
     })
 }
@@ -97,15 +170,20 @@ pub fn work_on(
     alloc: Global,
     task: Task,
     job: &Job,
-    plan: &Option<PlanFile>,
+    plan: &Option<GivenPlan>,
 ) -> Result<Printed, NoMemory>
     requires { CanWorkOn task job.now plan.now }
     ensures { IfOk result (λ p. PrintsFor task job.now plan.now p.verdict p.text) }
 {
     match task {
         Task::Arrange { strict, budget } => arrange(alloc, strict, budget, job),
+        Task::Least { strict, budget } => shrink(alloc, strict, budget, job),
         Task::Audit => match plan {
-            Some(file) => audit_file(alloc, job, file),
+            Some(plan) => audit_plan(alloc, job, plan),
+            None => unreachable!(),
+        },
+        Task::Check => match plan {
+            Some(plan) => check_plan(alloc, job, plan),
             None => unreachable!(),
         },
         Task::Slices => slice(alloc, job),

@@ -6,13 +6,15 @@ use run_files::Stop;
 /// What is said of the files' job where all of them can be used.
 #[derive(Clone, Copy, PartialEq, Eq, Debug)]
 pub enum Verdict {
-    /// A plan was found, the plan that was given is valid, or the outlines are printed.
+    /// A plan was found, or the least extent; the plan that was given is valid, its claim passes; or the outlines are printed.
     Done,
     /// There is no plan.
     NoPlan,
+    /// A plan was found, and the extent below was left undecided.
+    Open,
     /// The budget, or the width of numbers, left it undecided.
     Undecided,
-    /// The plan that was given isn't valid.
+    /// The plan that was given isn't valid, or its claim doesn't pass.
     Fault,
 }
 
@@ -33,6 +35,7 @@ fn code_of_verdict(verdict: Verdict) -> u8
     match verdict {
         Verdict::Done => 0,
         Verdict::NoPlan => 1,
+        Verdict::Open => 5,
         Verdict::Undecided => 6,
         Verdict::Fault => 7,
     }

@@ -1,4 +1,4 @@
-use Rattle.answer_checks.proofs.Passing.{least_passes, refuted_passes}
+use Rattle.answer_checks.specs.Laws.Passing.{least_passes, refuted_passes}
 use Rattle.answer_checks.proofs.what_a_search_claims_passes.Goals as goal
 
 pub returns-clause-refuted : goal.returns-clause-refuted

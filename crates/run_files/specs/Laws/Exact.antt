@@ -1,17 +1,13 @@
--- Files that are told hold one description, one plan and one mesh each. So a file that is refused can't be used.
+-- Files that are told hold one description and one mesh each. So a file that is refused can't be used.
 --
 --   printer_file-one         a file states one description
---   stated_plan-one          and one plan
 --   refused_files-unusable   where one file is refused, not all can be used
---   same_inputs              the files that words name say one thing
-use Rattle.std.proofs.Common.{◌≡◌, ℕ, zero, suc, ◌<◌, ◌≤◌, ℤ, Bool, List, [], ◌∷◌, length, slice_get, Option, Some, None, IsSome, Result, Ok, Err, refl, sym, ap, ◌∙◌, subst, arith}
+--   same_inputs, turned      the files that words name say one thing, where it is known that they state one plan
+use Rattle.std.proofs.Common.{◌≡◌, ℕ, zero, suc, ◌<◌, ◌≤◌, ℤ, Bool, true, List, [], ◌∷◌, length, slice_get, Option, Some, None, IsSome, refl, sym, ap, ◌∙◌, subst, arith}
 use Rattle.mesh_checks.specs.Edges.{open_edges}
 use Rattle.mesh_checks.specs.Verdicts.{IsClosedOutward}
 use Rattle.mesh_checks.specs.Volumes.{six_volume}
 use Rattle.mesh_slices.specs.Objects.{IsObjectOf}
-use Rattle.plan_text.specs.Reading.{plan_answer}
-use Rattle.plan_text.specs.declared.file.PlanFile.{PlanFile}
-use Rattle.plan_text.specs.declared.reading.PlanRead.{PlanRead}
 use Rattle.printer_text.specs.Laws.Descriptions.{description-one, description-refusal}
 use Rattle.printer_text.specs.Printers.{DescribedBy}
 use Rattle.seq_io.specs.Files.{bytes_of, GivesFile, LongerThan}
@@ -24,10 +20,12 @@ use Rattle.seq_model.specs.declared.printer.Printer.{Printer}
 use Rattle.std.specs.List.{AllZip}
 use Rattle.stl_text.specs.Laws.Meshes.{one_mesh, refused_no_mesh}
 use Rattle.stl_text.specs.Meshes.{MeshOf}
-use Rattle.run_files.specs.Causes.{IsRefusedMesh, IsRefusedPlan, IsUnfitFile, Refuses}
-use Rattle.run_files.specs.Files.{AreUsable, HasNamedPlan, Inputs, IsMeshFile, IsPrinterFile, IsUsableMesh, NamedMesh, StatesPlan, facets_of, mesh_limit, name_or, plan_limit, printer_limit}
+use Rattle.run_files.specs.Causes.{IsNoPlan, IsRefusedMesh, IsRefusedPlan, IsUnfitFile, Refuses}
+use Rattle.run_files.specs.Files.{AreUsable, HasNamedPlan, Inputs, IsOnlyPlan, IsMeshFile, IsPrinterFile, IsUsableMesh, NamedMesh, StatesPlan, facets_of, mesh_limit, name_or, plan_limit, printer_limit}
 use Rattle.run_files.specs.Jobs.{IsObjectFor}
+use Rattle.run_files.specs.Plans.{IsStatedBy}
 use Rattle.run_files.specs.Words.{is_strict}
+use Rattle.run_files.specs.declared.plans.GivenPlan.{GivenPlan}
 use Rattle.run_files.specs.declared.stop.Cause.{Cause}
 use Rattle.run_files.specs.declared.stop.Cause.TheVariants as Causes
 use Rattle.run_files.specs.declared.stop.NamedFile.{NamedFile}
@@ -37,26 +35,6 @@ use Rattle.run_files.specs.declared.words.Task.{Task}
 
 pub printer_file-one : (files : List MemFile) (name : List ℕ) (d e : Description) → IsPrinterFile (Some files) name d → IsPrinterFile (Some files) name e → d ≡ e
 printer_file-one files name d e p q = description-one p.bytes d e p.is (subst (λ b. DescribedBy b e) (q.gives ∙ sym p.gives) q.is)
-
--- reading bytes in order answers one thing
-abbrev ok : PlanFile × ℕ → Result (PlanFile × ℕ) PlanRead
-ok x = Ok x
-
-answer-one : (r : Result (PlanFile × ℕ) PlanRead) (p q : PlanFile) (k l : ℕ) → r ≡ Ok (p, k) → r ≡ Ok (q, l) → p ≡ q
-answer-one r p q k l e f =
-    ap (λ (x : PlanFile × ℕ). x.0) (inside (p, k) (q, l) (sym e ∙ f))
-  where
-    inside : (x y : PlanFile × ℕ) → ok x ≡ ok y → x ≡ y
-    inside x y e = cc
-
-answer-refused : (r : Result (PlanFile × ℕ) PlanRead) (p : PlanFile) (k : ℕ) (e : PlanRead) → r ≡ Ok (p, k) → r ≡ Err e → ⊥
-answer-refused r p k e f g = apart (p, k) e (sym f ∙ g)
-  where
-    apart : (x : PlanFile × ℕ) (e : PlanRead) → ok x ≡ Err e → ⊥
-    apart x e same = absurd (cc same)
-
-pub stated_plan-one : (files : List MemFile) (name : List ℕ) (p q : PlanFile) → StatesPlan (Some files) name p → StatesPlan (Some files) name q → p ≡ q
-stated_plan-one files name p q s t = answer-one (plan_answer s.bytes) p q s.place t.place s.read (subst (λ b. plan_answer b ≡ Ok (q, t.place)) (t.gives ∙ sym s.gives) t.read)
 
 mesh_file-one : (files : List MemFile) (name : List ℕ) (fs gs : List Facet) (m n : ℕ) → IsMeshFile (Some files) name fs m → IsMeshFile (Some files) name gs n → fs ≡ gs
 mesh_file-one files name fs gs m n p q = (one_mesh p.bytes fs gs m n p.is (subst (λ b. MeshOf b gs n) (q.gives ∙ sym p.gives) q.is)).0
@@ -72,6 +50,7 @@ module _ (files : List MemFile) (name : List ℕ) (task : Task) (step : ℤ) (m 
   unfit Causes.TooLong r = r.unfit
   unfit (Causes.Printer why) r = r.unfit
   unfit (Causes.Plan why) r = r.unfit
+  unfit (Causes.Block why) r = r.unfit
   unfit (Causes.Stl why) r = r.unfit
   unfit (Causes.NotClosed edges volume) r =
       let same = mesh_file-one files name r.facets m.facets r.dropped m.dropped r.is u.is in
@@ -91,6 +70,7 @@ module _ (files : List MemFile) (name : List ℕ) (task : Task) (step : ℤ) (m 
   usable_mesh Causes.TooLong r = too_long mesh_limit files name u.is.bytes r u.is.gives u.is.short
   usable_mesh (Causes.Printer e) r = r
   usable_mesh (Causes.Plan e) r = r
+  usable_mesh (Causes.Block e) r = r
   usable_mesh (Causes.Stl e) r = refused_no_mesh r.bytes e m.facets m.dropped r.refused (subst (λ b. MeshOf b m.facets m.dropped) (u.is.gives ∙ sym r.gives) u.is.is)
   usable_mesh (Causes.NotClosed edges volume) r = unfit (Causes.NotClosed edges volume) r
   usable_mesh Causes.Flat r = unfit Causes.Flat r
@@ -108,19 +88,23 @@ chosen R (n ∷ ns) (m ∷ ms) zero z h = record { mesh = m; is = z.0 }
 chosen R (n ∷ ns) (m ∷ ms) (suc k) z h = (let later = chosen R ns ms k z.1 (omega (arith, h)) in record { mesh = later.mesh; is = later.is })
 
 -- a plan that a word names can't be refused where it can be used
-plan_unusable : (files : List MemFile) (name : List ℕ) (plan : PlanFile) (c : Cause) → StatesPlan (Some files) name plan → IsRefusedPlan (Some files) name c → ⊥
-plan_unusable files name plan Causes.TooLong s r = too_long plan_limit files name s.bytes r s.gives s.short
-plan_unusable files name plan (Causes.Printer e) s r = r
-plan_unusable files name plan (Causes.Plan e) s r = answer-refused (plan_answer s.bytes) plan s.place e s.read (subst (λ b. plan_answer b ≡ Err e) (r.gives ∙ sym s.gives) r.refused)
-plan_unusable files name plan (Causes.Stl e) s r = r
-plan_unusable files name plan (Causes.NotClosed edges volume) s r = r
-plan_unusable files name plan Causes.Flat s r = r
-plan_unusable files name plan (Causes.TooTall bands) s r = r
+stated_unusable : (files : List MemFile) (task : Task) (name : List ℕ) (plan : GivenPlan) (c : Cause) → StatesPlan (Some files) task name plan → IsNoPlan (Some files) task name c → ⊥
+stated_unusable files task name plan c s r = r.refused.none plan (subst (λ b. IsStatedBy task b plan) (s.gives ∙ sym r.gives) s.is)
 
-named_plan_unusable : (files : List MemFile) (named : Option (List ℕ)) (plan : Option PlanFile) (c : Cause) → IsSome named → HasNamedPlan (Some files) named plan → IsRefusedPlan (Some files) (name_or named) c → ⊥
-named_plan_unusable files None plan c is h r = absurd (cc is)
-named_plan_unusable files (Some name) None c is h r = absurd h
-named_plan_unusable files (Some name) (Some plan) c is h r = plan_unusable files name plan c h r
+plan_unusable : (files : List MemFile) (task : Task) (name : List ℕ) (plan : GivenPlan) (c : Cause) → StatesPlan (Some files) task name plan → IsRefusedPlan (Some files) task name c → ⊥
+plan_unusable files task name plan Causes.TooLong s r = too_long plan_limit files name s.bytes r s.gives s.short
+plan_unusable files task name plan (Causes.Printer e) s r = r
+plan_unusable files task name plan (Causes.Plan e) s r = stated_unusable files task name plan (Causes.Plan e) s r
+plan_unusable files task name plan (Causes.Block e) s r = stated_unusable files task name plan (Causes.Block e) s r
+plan_unusable files task name plan (Causes.Stl e) s r = r
+plan_unusable files task name plan (Causes.NotClosed edges volume) s r = r
+plan_unusable files task name plan Causes.Flat s r = r
+plan_unusable files task name plan (Causes.TooTall bands) s r = r
+
+named_plan_unusable : (files : List MemFile) (task : Task) (named : Option (List ℕ)) (plan : Option GivenPlan) (c : Cause) → IsSome named → HasNamedPlan (Some files) task named plan → IsRefusedPlan (Some files) task (name_or named) c → ⊥
+named_plan_unusable files task None plan c is h r = absurd (cc is)
+named_plan_unusable files task (Some name) None c is h r = absurd h
+named_plan_unusable files task (Some name) (Some plan) c is h r = plan_unusable files task name plan c h r
 
 pub refused_files-unusable : (files : List MemFile) (a : Asked) (inputs : Inputs) (file : NamedFile) (c : Cause) → Refuses (Some files) a file c → AreUsable (Some files) a inputs → ⊥
 refused_files-unusable files a inputs file c r x = by file c r
@@ -129,11 +113,12 @@ refused_files-unusable files a inputs file c r x = by file c r
     by Named.Printer Causes.TooLong r = too_long printer_limit files a.printer x.printer.bytes r x.printer.gives x.printer.short
     by Named.Printer (Causes.Printer e) r = description-refusal r.bytes inputs.description e (subst (λ b. DescribedBy b inputs.description) (x.printer.gives ∙ sym r.gives) x.printer.is) r.refused
     by Named.Printer (Causes.Plan e) r = r
+    by Named.Printer (Causes.Block e) r = r
     by Named.Printer (Causes.Stl e) r = r
     by Named.Printer (Causes.NotClosed edges volume) r = r
     by Named.Printer Causes.Flat r = r
     by Named.Printer (Causes.TooTall bands) r = r
-    by Named.Plan c r = named_plan_unusable files a.plan inputs.plan c r.before.named x.plan r.refused
+    by Named.Plan c r = named_plan_unusable files a.task a.plan inputs.plan c r.before.named x.plan r.refused
     by (Named.Mesh k) c r =
         let one = printer_file-one files a.printer r.before.description inputs.description r.before.printer x.printer in
         let m = chosen (IsUsableMesh (Some files) (is_strict a.task) inputs.description.step) a.meshes inputs.meshes k x.each r.before.there in
@@ -168,14 +153,6 @@ same_objects files strict other step width (x ∷ xs) (m ∷ ms) (n ∷ ns) p q 
 same_objects files strict other step width (x ∷ xs) (m ∷ ms) (n ∷ ns) p q printer (o ∷ objects) z =
     (same_object files strict other step width x m n printer o p.0 q.0 z.0, same_objects files strict other step width xs ms ns p.1 q.1 printer objects z.1)
 
-plans-one : (files : List MemFile) (named : Option (List ℕ)) (p q : Option PlanFile) → HasNamedPlan (Some files) named p → HasNamedPlan (Some files) named q → p ≡ q
-plans-one files None None None h k = refl
-plans-one files None None (Some q) h k = absurd k
-plans-one files None (Some p) q h k = absurd h
-plans-one files (Some name) None q h k = absurd h
-plans-one files (Some name) (Some p) None h k = absurd k
-plans-one files (Some name) (Some p) (Some q) h k = ap Some (stated_plan-one files name p q h k)
-
 -- what two say of the same files
 pub record SameInputs (x y : Inputs) : Type 0 where
   pub description : x.description ≡ y.description
@@ -183,10 +160,16 @@ pub record SameInputs (x y : Inputs) : Type 0 where
   pub facets : facets_of x.meshes ≡ facets_of y.meshes
   pub objects : (printer : Printer) (objects : List Object) → AllZip (IsObjectFor printer) x.meshes objects → AllZip (IsObjectFor printer) y.meshes objects
 
-pub same_inputs : (files : List MemFile) (a : Asked) (x y : Inputs) → AreUsable (Some files) a x → AreUsable (Some files) a y → SameInputs x y
-same_inputs files a x y u v = record {
+same_by : (files : List MemFile) (a : Asked) (x y : Inputs) → AreUsable (Some files) a x → AreUsable (Some files) a y → x.plan ≡ y.plan → SameInputs x y
+same_by files a x y u v plan = record {
   description = printer_file-one files a.printer x.description y.description u.printer v.printer;
-  plan = plans-one files a.plan x.plan y.plan u.plan v.plan;
+  plan = plan;
   facets = facets-one files (is_strict a.task) (is_strict a.task) x.description.step y.description.step a.meshes x.meshes y.meshes u.each v.each;
   objects = same_objects files (is_strict a.task) (is_strict a.task) x.description.step y.description.step a.meshes x.meshes y.meshes u.each v.each;
 }
+
+pub same_inputs : (files : List MemFile) (a : Asked) (x y : Inputs) → AreUsable (Some files) a x → IsOnlyPlan (Some files) a x.plan → AreUsable (Some files) a y → SameInputs x y
+same_inputs files a x y u only v = same_by files a x y u v (sym (only.same files refl y.plan v.plan))
+
+pub turned : (files : List MemFile) (a : Asked) (x y : Inputs) → AreUsable (Some files) a x → IsOnlyPlan (Some files) a x.plan → AreUsable (Some files) a y → SameInputs y x
+turned files a x y u only v = same_by files a y x v u (only.same files refl y.plan v.plan)

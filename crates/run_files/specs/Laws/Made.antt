@@ -4,6 +4,7 @@
 --   zones_same      objects have the zones of their meshes
 --   made_from       the job of a description and its meshes is made from them
 --   same_plans      and has the valid plans of the files
+--   least_of_files  so its least extent is that of the files
 use Rattle.std.proofs.Common.{ℕ, List, [], ◌∷◌, Contains, sym, subst}
 use Rattle.std.specs.Prelude.{◌↔◌}
 use Rattle.std.specs.List.{AllZip}
@@ -15,7 +16,7 @@ use Rattle.printer_text.specs.Printers.{AreKept, IsKept}
 use Rattle.seq_model.specs.Jobs.{scene_of_job}
 use Rattle.seq_model.specs.Outlines.{Within}
 use Rattle.seq_model.specs.Points.{at_spot}
-use Rattle.seq_model.specs.Scenes.{Description, Valid, scene_of_files}
+use Rattle.seq_model.specs.Scenes.{Description, Least, Valid, scene_of_files}
 use Rattle.seq_model.specs.declared.job.Job.{Job}
 use Rattle.seq_model.specs.declared.job.Object.{Object}
 use Rattle.seq_model.specs.declared.plan.Plan.{Plan}
@@ -59,3 +60,10 @@ pub same_plans : (d : Description) (meshes : List NamedMesh) (job : Job) → IsJ
 same_plans d meshes job j e plan =
     subst (λ (x : Description). Valid (scene_of_files x (facets_of meshes)) e plan ↔ Valid (scene_of_job job) e plan) j.printer.numbers
     (same_plans_of_job d.parts (facets_of meshes) job (made_from d meshes job j) e plan)
+
+pub least_of_files : (d : Description) (meshes : List NamedMesh) (job : Job) → IsJobOf d meshes job → (e : ℕ) → Least (scene_of_job job) e → Least (scene_of_files d (facets_of meshes)) e
+least_of_files d meshes job j e l = record {
+  plan = l.plan;
+  valid = (same_plans d meshes job j e l.plan).1 l.valid;
+  none = λ f below q valid. l.none f below q ((same_plans d meshes job j f q).0 valid);
+}

@@ -13,7 +13,7 @@ returns-in_err-found-clause-why g c =
     let s2 : ShelfView = g.S.Shelf.shows c.load_plan.new.shelf in
     let p = c.in_ok-printer in
     let q = c.in_ok-plan in
-    let why = c.load_meshes.ensures.why s q.plan (none_loaded a p.printer q.plan s s1 s2 p.ensures.files p.ensures.is p.ensures.read q.ensures.files q.ensures.is q.ensures.read) in
+    let why = c.load_meshes.ensures.why s q.plan (none_loaded a p.printer q.plan s s1 s2 p.ensures.files p.ensures.is p.ensures.read q.ensures.files q.ensures.is q.ensures.only q.ensures.read) in
     search rules
 
 pub invariant_of-result : goal.invariant_of-result
@@ -26,7 +26,7 @@ invariant_of-result g c =
     let p = c.in_ok-printer in
     let q = c.in_ok-plan in
     let found = c.in_ok-found.found in
-    let none = none_loaded a p.printer q.plan s s1 s2 p.ensures.files p.ensures.is p.ensures.read q.ensures.files q.ensures.is q.ensures.read in
+    let none = none_loaded a p.printer q.plan s s1 s2 p.ensures.files p.ensures.is p.ensures.read q.ensures.files q.ensures.is q.ensures.only q.ensures.read in
     let all : Loading a p.printer q.plan (length a.meshes) s s' found.objects found.notes.items = c.in_ok-found.ensures.all s q.plan none in
     record { sound = are_sound a p.printer q.plan s s' found.objects found.notes.items c.requires all }
 
@@ -40,7 +40,7 @@ returns-clause-is g c =
     let p = c.in_ok-printer in
     let q = c.in_ok-plan in
     let found = c.in_ok-found.found in
-    let none = none_loaded a p.printer q.plan s s1 s2 p.ensures.files p.ensures.is p.ensures.read q.ensures.files q.ensures.is q.ensures.read in
+    let none = none_loaded a p.printer q.plan s s1 s2 p.ensures.files p.ensures.is p.ensures.read q.ensures.files q.ensures.is q.ensures.only q.ensures.read in
     let all : Loading a p.printer q.plan (length a.meshes) s s' found.objects found.notes.items = c.in_ok-found.ensures.all s q.plan none in
     subst (IsLoaded s.files a _ q.plan) (sym c.from_vec-notes.ensures) (is_loaded a p.printer q.plan s s' found.objects found.notes.items _ all refl refl)
 
@@ -54,7 +54,7 @@ returns-clause-read g c =
     let p = c.in_ok-printer in
     let q = c.in_ok-plan in
     let found = c.in_ok-found.found in
-    let none = none_loaded a p.printer q.plan s s1 s2 p.ensures.files p.ensures.is p.ensures.read q.ensures.files q.ensures.is q.ensures.read in
+    let none = none_loaded a p.printer q.plan s s1 s2 p.ensures.files p.ensures.is p.ensures.read q.ensures.files q.ensures.is q.ensures.only q.ensures.read in
     let all : Loading a p.printer q.plan (length a.meshes) s s' found.objects found.notes.items = c.in_ok-found.ensures.all s q.plan none in
     all_read a p.printer q.plan s s' found.objects found.notes.items c.requires all
 
@@ -68,6 +68,6 @@ returns-clause-reached g c =
     let p = c.in_ok-printer in
     let q = c.in_ok-plan in
     let found = c.in_ok-found.found in
-    let none = none_loaded a p.printer q.plan s s1 s2 p.ensures.files p.ensures.is p.ensures.read q.ensures.files q.ensures.is q.ensures.read in
+    let none = none_loaded a p.printer q.plan s s1 s2 p.ensures.files p.ensures.is p.ensures.read q.ensures.files q.ensures.is q.ensures.only q.ensures.read in
     let all : Loading a p.printer q.plan (length a.meshes) s s' found.objects found.notes.items = c.in_ok-found.ensures.all s q.plan none in
     all.reached

@@ -20,5 +20,5 @@ returns c = λ plan.
     let e = c.in_ok-decision.ensures in
     let text : List ℕ = c.from_vec.result in
     let is : text ≡ decision_text job.printer.grid d = search rules in
-    subst (λ v. PrintsFor (Arrange c.args.strict c.args.budget) job plan v text) (sym c.verdict_for-verdict.ensures)
+    subst (λ v. PrintsFor (Arrange c.args.strict c.args.budget) job plan v text) (sym c.verdict_of_decision-verdict.ensures)
     (decision_for c.args.strict c.args.budget plan job text d e.is e.zero e.unspent is))

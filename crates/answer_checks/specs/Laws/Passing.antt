@@ -1,4 +1,7 @@
 -- The files and blocks of what a search claims, judged.
+--
+--   refuted_passes   what is stated of a whole plate without a plan passes
+--   least_passes     so does what is stated of a least extent
 use Rattle.std.proofs.Common.{inr, ℕ, zero, suc, ◌-◌, ◌≤◌, [], ◌∷◌, Option, Some, None, refl, sym, subst, arith}
 use Rattle.claim_checker.specs.Claims.{IsBlockClaim, IsClaim}
 use Rattle.claim_checker.specs.declared.verdict.Claim.TheVariants as Claims
