@@ -5,7 +5,8 @@ use Rattle.std.proofs.lemmas.List.{get_or-set_same, get_or-set_other}
 use Rattle.std.proofs.lemmas.List.FromFn.{length-range_with_len}
 use Rattle.std.specs.List.{range_with_len}
 use Rattle.integer_laws.specs.Members.{In}
-use Rattle.integer_laws.specs.Laws.Members.{In-from_contains, Contains-from_in}
+use Rattle.integer_laws.specs.Laws.Members.{In-from_contains, Contains-from_in, In-append_cases}
+use Rattle.row_pivots.specs.Laws.Grown.{at_end, length-more, fresh_more}
 use Rattle.integer_laws.specs.Divisors.{IsGcdOf}
 use Rattle.integer_laws.specs.Laws.Divisors.{gcd_zero, gcd_step}
 use Rattle.std.proofs.lemmas.Int.{ints}
@@ -76,6 +77,7 @@ exchanged places basic free r s p hr hs = record {
       (set (set places (get_or basic r 0) s) (get_or free s 0) r) long into_at rest;
   of_free = turned_places places free s (get_or basic r 0) (get_or free s 0) 0 0 p.of_free p.fresh_free hs (λ k. p.apart (get_or basic r 0) in_out k) refl (λ e. differ (sym e)) long_into long_out
       (set (set places (get_or basic r 0) s) (get_or free s 0) r) long out_at (λ z a b. rest z b a);
+  many = let a = long in let b = p.many in let c = length-set basic r (get_or free s 0) in let d = length-set free s (get_or basic r 0) in omega (arith, a, b, c, d);
 }
   where
     in_out : In (get_or basic r 0) basic
@@ -111,16 +113,59 @@ exchanged places basic free r s p hr hs = record {
     parted z (inr k) (inl f) = k.1 f
     parted z (inr k) (inr l) = p.apart z k.0 l.0
 
+in_front : (xs ys : List ℕ) (k d : ℕ) → k < length xs → get_or (xs ++ ys) k d ≡ get_or xs k d
+in_front [] ys k d h = absurd (omega (arith, h))
+in_front (x ∷ xs) ys zero d h = refl
+in_front (x ∷ xs) ys (suc k) d h = in_front xs ys k d (omega (arith, h))
+
+-- ---- one more
+pub grown_places : (places basic free : List ℕ) → IsPlaced places basic free → IsPlaced (places ++ length basic ∷ []) (basic ++ (length basic + length free) ∷ []) free
+grown_places places basic free p = record {
+  fresh_basic = fresh;
+  fresh_free = p.fresh_free;
+  apart = λ y i k. apart y (In-append_cases basic (z ∷ []) y i) k;
+  of_basic = λ y i. of_basic y (In-append_cases basic (z ∷ []) y i);
+  of_free = λ y i. let k = p.of_free y i in (let m = length-more places (length basic) in omega (arith, k.0, m), in_front places (length basic ∷ []) y 0 k.0 ∙ k.1);
+  many = let a = length-more places (length basic) in let b = length-more basic z in let m = p.many in omega (arith, a, b, m);
+}
+  where
+    z : ℕ
+    z = length basic + length free
+
+    new : In (length basic + length free) basic → ⊥
+    new i = let k = (p.of_basic (length basic + length free) i).0 in let m = p.many in absurd (omega (arith, k, m))
+
+    fresh : Fresh (basic ++ (length basic + length free) ∷ [])
+    fresh = fresh_more basic (length basic + length free) p.fresh_basic new
+
+    apart : (y : ℕ) → In y basic ⊎ In y ((length basic + length free) ∷ []) → In y free → ⊥
+    apart y (inl i) k = p.apart y i k
+    apart y (inr (inl e)) k = let h = (p.of_free y k).0 in let m = p.many in absurd (omega (arith, h, m, e))
+    apart y (inr (inr i)) k = absurd i
+
+    of_basic : (y : ℕ) → In y basic ⊎ In y ((length basic + length free) ∷ []) → (y < length (places ++ length basic ∷ [])) × (get_or (places ++ length basic ∷ []) y 0 ≡ place_of y (basic ++ (length basic + length free) ∷ []))
+    of_basic y (inl i) =
+        let k = p.of_basic y i in
+        let at = place_is y basic i in (
+          let m = length-more places (length basic) in omega (arith, k.0, m),
+          in_front places (length basic ∷ []) y 0 k.0 ∙ k.1
+              ∙ sym (place_unique y (basic ++ (length basic + length free) ∷ []) (place_of y basic) fresh (let m = length-more basic (length basic + length free) in omega (arith, at.0, m)) (in_front basic ((length basic + length free) ∷ []) (place_of y basic) 0 at.0 ∙ at.1)),
+        )
+    of_basic y (inr (inl e)) =
+        let m = p.many in
+        let l = length-more places (length basic) in
+        let same : y ≡ length places = omega (arith, e, m) in (
+          omega (arith, l, same),
+          ap (λ t. get_or (places ++ length basic ∷ []) t 0) same ∙ at_end places (length basic) 0
+              ∙ sym (place_unique y (basic ++ (length basic + length free) ∷ []) (length basic) fresh (let k = length-more basic (length basic + length free) in omega (arith, k)) (at_end basic (length basic + length free) 0 ∙ sym e)),
+        )
+    of_basic y (inr (inr i)) = absurd i
+
 -- ---- where all begins
 at_range : (a n k d : ℕ) → k < n → get_or (range_with_len a n) k d ≡ a + k
 at_range a zero k d h = absurd (omega (arith, h))
 at_range a (suc n) zero d h = omega arith
 at_range a (suc n) (suc k) d h = let e = at_range (a + 1) n k d (omega (arith, h)) in omega (arith, e)
-
-in_front : (xs ys : List ℕ) (k d : ℕ) → k < length xs → get_or (xs ++ ys) k d ≡ get_or xs k d
-in_front [] ys k d h = absurd (omega (arith, h))
-in_front (x ∷ xs) ys zero d h = refl
-in_front (x ∷ xs) ys (suc k) d h = in_front xs ys k d (omega (arith, h))
 
 past_front : (xs ys : List ℕ) (k d : ℕ) → length xs ≤ k → get_or (xs ++ ys) k d ≡ get_or ys (k - length xs) d
 past_front [] ys k d h = ap (λ t. get_or ys t d) (less k)
@@ -144,6 +189,7 @@ placed_first vars count = record {
   apart = λ z i j. let a = high z i in let b = low z j in absurd (omega (arith, a.0, b));
   of_basic = λ z i. basic z (high z i);
   of_free = λ z i. free z (low z i);
+  many = let a = A in let l = all in let b = length-range_with_len vars count in omega (arith, a, l, b);
 }
   where
     plain : (n : ℕ) → n ≡ 0 + n

@@ -1,5 +1,5 @@
-ghost use Rattle.std.specs.Prelude.{◌≡◌, ◌↔◌, ℕ, ◌+◌, ◌<◌, ◌^◌, ◌++◌, List, IsTrue, Contains, IfOk, length, slice_index_or, slice_set};
-ghost use Rattle.std.specs.List.{range_with_len};
+ghost use Rattle.std.specs.Prelude.{◌≡◌, ◌↔◌, ℕ, ◌+◌, ◌<◌, ◌^◌, ◌++◌, ◌∷◌, List, [], IsTrue, Contains, IfOk, OnOk, OnErr, length, slice_index_or, slice_set};
+ghost use Rattle.std.specs.List.{range_with_len, swap_remove};
 ghost use Rattle.row_dictionary.specs.Seen.{ArePlaces};
 ghost use Rattle.row_pivots.specs.Tables.{place_of};
 
@@ -92,6 +92,20 @@ impl Variables {
         self.free[s] = out;
         self.places[out as usize] = s;
         self.places[into as usize] = r;
+    }
+
+    /// The variable of the next number is basic, at the last place.
+    pub fn grow(&mut self) -> Result<(), AllocError>
+        requires { length self.old.basic + length self.old.free + 1 < 2 ^ 32 }
+        ensures basic { OnOk result (self.new.basic ≡ self.old.basic ++ (length self.old.basic + length self.old.free) ∷ []) }
+        ensures free { self.new.free ≡ self.old.free }
+        ensures unchanged { OnErr result (self.new.basic ≡ self.old.basic) }
+    {
+        let next = self.basic.len() + self.free.len();
+        self.basic.reserve(1)?;
+        self.places.push(self.basic.len())?;
+        self.basic.push(next as u32)?;
+        Ok(())
     }
 }
 

@@ -12,3 +12,5 @@ pub mod Sorted
 pub mod Turned
 pub mod Values
 pub mod WideRows
+pub mod Grown
+pub mod Shrunk

@@ -27,7 +27,7 @@ use Rattle.seq_model.specs.declared.row.Row.{Row}
 use Rattle.row_pivots.specs.Turns.{IsContent, prepared, quotients, turned_lines, unit_line}
 
 -- ---- the line of what enters, over the old free variables
-unit_says : (vars : ℕ) (rows : List Row) → AreRowsOf vars rows → (d : ℤ) (free : List ℕ) → InRange (vars + length rows) free → (s : ℕ) → s < length free
+pub unit_says : (vars : ℕ) (rows : List Row) → AreRowsOf vars rows → (d : ℤ) (free : List ℕ) → InRange (vars + length rows) free → (s : ℕ) → s < length free
     → Line vars rows d free (get_or free s 0) (unit_line (suc (length free)) (suc s) d)
 unit_says vars rows are d free small s h =
     line_from vars rows are d free small (get_or free s 0) (small (get_or free s 0) (get_or-In free s 0 h)) (unit_line (suc (length free)) (suc s) d) long each
@@ -146,6 +146,31 @@ abs_some (pos zero) n = absurd (n refl)
 abs_some (pos (suc m)) n = omega arith
 abs_some (negsuc m) n = omega arith
 
+content_divides : (D : ℤ) (N : List (List ℤ)) (g : ℤ) → IsContent g D N → (l : List ℤ) → In l N → (x : ℤ) → In x l → unsigned_abs g ∣ unsigned_abs x
+content_divides D N g content l i x k = All-in (λ x. unsigned_abs g ∣ unsigned_abs x) l x (All-in (λ l. All (λ x. unsigned_abs g ∣ unsigned_abs x) l) N l ((content (unsigned_abs g)).0 (divides_self (unsigned_abs g))).1 i) k
+
+-- what is divided by its content has no divisor left
+pub divided_reduced : (D : ℤ) (N : List (List ℤ)) (g : ℤ) → (g ≡ pos 0 → ⊥) → IsContent g D N → (k : ℕ) → DividesAll k (int_div D g) (map (quotients g) N) → k ≡ 1
+divided_reduced D N g some content k a = eq-one_of_dvd-one (dvd_of_mul-dvd-mul_left k (abs_some g some) (subst (λ t. unsigned_abs g * k ∣ t) (sym (mul-one (unsigned_abs g))) ((content (unsigned_abs g * k)).1 (first, rest))))
+  where
+    times : (x : ℤ) → unsigned_abs g ∣ unsigned_abs x → k ∣ unsigned_abs (int_div x g) → unsigned_abs g * k ∣ unsigned_abs x
+    times x v w = subst (λ t. unsigned_abs g * k ∣ t) (sym (ap unsigned_abs (exact_quotient x g v) ∙ unsigned_abs-mul g (int_div x g))) (mul-dvd-mul_left k (unsigned_abs g) w)
+
+    first : unsigned_abs g * k ∣ unsigned_abs D
+    first = times D ((content (unsigned_abs g)).0 (divides_self (unsigned_abs g))).0 a.0
+
+    rest : All (λ l. All (λ x. unsigned_abs g * k ∣ unsigned_abs x) l) N
+    rest = All-from_in (λ l. All (λ x. unsigned_abs g * k ∣ unsigned_abs x) l) N (λ l i. All-from_in (λ x. unsigned_abs g * k ∣ unsigned_abs x) l (λ x j.
+        times x (content_divides D N g content l i x j) (All-in (λ x. k ∣ unsigned_abs x) (quotients g l) (int_div x g) (All-in (λ l. All (λ x. k ∣ unsigned_abs x) l) (map (quotients g) N) (quotients g l) a.1 (In-map (quotients g) N l i)) (In-map (λ x. int_div x g) l x j))))
+
+-- lines that say a basis over what they are divided by still say it
+pub says_content : (vars : ℕ) (rows : List Row) → AreRowsOf vars rows → (D : ℤ) (N : List (List ℤ)) (g : ℤ) → (g ≡ pos 0 → ⊥) → IsContent g D N → (free basic : List ℕ) → InRange (vars + length rows) free → InRange (vars + length rows) basic
+    → Says vars rows D free basic N → Says vars rows (int_div D g) free basic (map (quotients g) N)
+says_content vars rows are D N g some content free basic small_free small_basic says =
+    says_divided vars rows are g (int_div D g) some free small_free basic small_basic (map (quotients g) N)
+    (subst (λ e. Says vars rows e free basic (map (scale g) (map (quotients g) N))) (exact_quotient D g ((content (unsigned_abs g)).0 (divides_self (unsigned_abs g))).0)
+    (subst (λ l. Says vars rows D free basic l) (exact_lines g N (content_divides D N g content)) says))
+
 pub turned : (vars : ℕ) (rows : List Row) (d : ℤ) (basic free : List ℕ) (lines : List (List ℤ)) → Holds vars rows d basic free lines
     → (r s : ℕ) → r < length basic → s < length free → (g : ℤ) → (g ≡ pos 0 → ⊥) → IsContent g (d *ℤ entry_at (line_at lines r) (suc s)) (turned_lines d lines r (suc s))
     → pos 1 ≤ℤ int_div (d *ℤ entry_at (line_at lines r) (suc s)) g
@@ -160,12 +185,9 @@ turned vars rows d basic free lines h r s in_r in_s g some content sign = record
   small_basic = range_set (vars + length rows) basic r into h.small_basic (h.small_free into free_into);
   small_free = range_set (vars + length rows) free s out h.small_free (h.small_basic out basic_out);
   cover = cover;
-  says = says_divided vars rows h.rows_are g (int_div D g) some (set free s out) (range_set (vars + length rows) free s out h.small_free (h.small_basic out basic_out)) (set basic r into)
-      (range_set (vars + length rows) basic r into h.small_basic (h.small_free into free_into)) (map (quotients g) N)
-      (subst (λ e. Says vars rows e (set free s out) (set basic r into) (map (scale g) (map (quotients g) N))) (exact_quotient D g all.0)
-      (subst (λ l. Says vars rows D (set free s out) (set basic r into) l) (exact_lines g N each)
-      (says_turned vars rows h.rows_are d free basic lines h.small_free h.small_basic r s in_r in_s h.says)));
-  reduced = reduced;
+  says = says_content vars rows h.rows_are D N g some content (set free s out) (set basic r into) (range_set (vars + length rows) free s out h.small_free (h.small_basic out basic_out))
+      (range_set (vars + length rows) basic r into h.small_basic (h.small_free into free_into)) (says_turned vars rows h.rows_are d free basic lines h.small_free h.small_basic r s in_r in_s h.says);
+  reduced = divided_reduced D N g some content;
 }
   where
     into : ℕ
@@ -208,22 +230,3 @@ turned vars rows d basic free lines h r s in_r in_s g some content sign = record
             stays : (y ≡ into) ⊎ In y (set free s out) → In y (set basic r into) ⊎ In y (set free s out)
             stays (inl e) = inl (subst (λ t. In t (set basic r into)) (sym e) (In-put basic r into in_r))
             stays (inr j) = inr j
-
-    all : DividesAll (unsigned_abs g) D N
-    all = (content (unsigned_abs g)).0 (divides_self (unsigned_abs g))
-
-    each : (l : List ℤ) → In l N → (x : ℤ) → In x l → unsigned_abs g ∣ unsigned_abs x
-    each l i x k = All-in (λ x. unsigned_abs g ∣ unsigned_abs x) l x (All-in (λ l. All (λ x. unsigned_abs g ∣ unsigned_abs x) l) N l all.1 i) k
-
-    reduced : (k : ℕ) → DividesAll k (int_div D g) (map (quotients g) N) → k ≡ 1
-    reduced k a = eq-one_of_dvd-one (dvd_of_mul-dvd-mul_left k (abs_some g some) (subst (λ t. unsigned_abs g * k ∣ t) (sym (mul-one (unsigned_abs g))) ((content (unsigned_abs g * k)).1 (first, rest))))
-      where
-        times : (x : ℤ) → unsigned_abs g ∣ unsigned_abs x → k ∣ unsigned_abs (int_div x g) → unsigned_abs g * k ∣ unsigned_abs x
-        times x v w = subst (λ t. unsigned_abs g * k ∣ t) (sym (ap unsigned_abs (exact_quotient x g v) ∙ unsigned_abs-mul g (int_div x g))) (mul-dvd-mul_left k (unsigned_abs g) w)
-
-        first : unsigned_abs g * k ∣ unsigned_abs D
-        first = times D all.0 a.0
-
-        rest : All (λ l. All (λ x. unsigned_abs g * k ∣ unsigned_abs x) l) N
-        rest = All-from_in (λ l. All (λ x. unsigned_abs g * k ∣ unsigned_abs x) l) N (λ l i. All-from_in (λ x. unsigned_abs g * k ∣ unsigned_abs x) l (λ x j.
-            times x (each l i x j) (All-in (λ x. k ∣ unsigned_abs x) (quotients g l) (int_div x g) (All-in (λ l. All (λ x. k ∣ unsigned_abs x) l) (map (quotients g) N) (quotients g l) a.1 (In-map (quotients g) N l i)) (In-map (λ x. int_div x g) l x j))))
