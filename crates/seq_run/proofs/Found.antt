@@ -126,7 +126,7 @@ module _ (files : List MemFile) (a : Asked) (notes text : List ℕ) (n : HasEnou
   undecided_enough x = by a.task n.arranges (enough_for x.inputs (same_inputs files a x.inputs n.inputs x.usable x.only_plan n.usable)) x.prints
     where
       by : (task : Task) → Arranges task → ((job : Job) → IsJobOf x.inputs.description x.inputs.meshes job → IsEnoughFor task job) → Prints task x.inputs Undecided text → ⊥
-      by (Tasks.Arrange strict budget) r enough p = undecided_by x.inputs budget text (λ job e. e ≡ job.printer.grid) enough (grid_of x.inputs) p
+      by (Tasks.Arrange strict budget) r enough p = undecided_by x.inputs budget text (λ job e. e ≡ job.printer.grid) enough (grid_of x.inputs) p.undecided
       by (Tasks.Least strict budget) r enough p = undecided_by x.inputs budget text (λ job e. (1 ≤ e) × (e ≤ job.printer.grid)) enough sought p
         where
           sought : (job : Job) → IsJobOf x.inputs.description x.inputs.meshes job → (1 ≤ x.inputs.description.grid) × (x.inputs.description.grid ≤ job.printer.grid)

@@ -17,7 +17,7 @@ use Rattle.plate_shrink.specs.declared.outcome.Outcome.TheVariants as Outcomes
 use Rattle.refinement_loop.specs.Decisions.{IsDecision, IsRefutation, IsSpent, IsSpentDecision, IsWideEnd, IsZeroDecision}
 use Rattle.refinement_loop.specs.declared.deciding.Decision.{Decision}
 use Rattle.refinement_loop.specs.declared.deciding.Decision.TheVariants as Decisions
-use Rattle.run_files.specs.Files.{NamedMesh, facets_of}
+use Rattle.run_files.specs.Files.{Inputs, NamedMesh, facets_of}
 use Rattle.run_files.specs.Jobs.{IsJobOf, IsObjectFor}
 use Rattle.run_files.specs.Laws.Made.{least_of_files, made_from, same_plans}
 use Rattle.run_files.specs.declared.plans.GivenPlan.{GivenPlan}
@@ -33,7 +33,7 @@ use Rattle.seq_model.specs.declared.tree.Tree.{Tree}
 use Rattle.seq_model.specs.declared.tree.WideNote.{WideNote}
 use Rattle.seq_run.specs.Arranged.{PassesCheck, PrintsLeast, PrintsNone, PrintsOpen, PrintsPlan, PrintsSpent, PrintsWide}
 use Rattle.seq_run.specs.Planning.{PrintsFor, verdict_of_decision, verdict_of_outcome}
-use Rattle.seq_run.specs.Printed.{PrintsSlices}
+use Rattle.seq_run.specs.Printed.{PrintsSlices, PrintsUndecided, PrintsUnfound}
 use Rattle.seq_run.specs.declared.status.Verdict.TheVariants as Verdicts
 use Rattle.slice_text.specs.SlicesText.{slices_text}
 
@@ -124,12 +124,20 @@ module _ (budget : ℕ) (job : Job) (text : List ℕ) (d : Description) (meshes 
     below_full = λ spent full f. above budget full (never spent full f);
   }
 
+unfound : (budget : ℕ) (job : Job) (text : List ℕ) (inputs : Inputs) → IsJobOf inputs.description inputs.meshes job → (HasZeroPlan job job.printer.grid → ⊥) → PrintsUndecided inputs budget text → PrintsUnfound inputs budget text
+unfound budget job text inputs j zero undecided = record {
+  undecided = undecided;
+  job = job;
+  is_job = j;
+  no_zero_plan = subst (λ n. HasZeroPlan job n → ⊥) (ap (λ (x : Description). x.grid) j.printer.numbers) zero;
+}
+
 pub decision_for : (strict : Bool) (budget : ℕ) (plan : Option GivenPlan) (job : Job) (text : List ℕ) (decision : Decision) → IsDecision job job.printer.grid budget decision → (HasZeroPlan job job.printer.grid → IsZeroDecision job job.printer.grid decision)
     → ((full : ℕ) → Full job full → full ≤ budget → IsSpentDecision decision → ⊥) → text ≡ decision_text job.printer.grid decision → PrintsFor (Tasks.Arrange strict budget) job plan (verdict_of_decision decision) text
 decision_for strict budget plan job text (Decisions.Found p) is zero unspent written = record { each = λ inputs j same. found budget job text inputs.description inputs.meshes j p is zero written }
 decision_for strict budget plan job text (Decisions.Refuted tree) is zero unspent written = record { each = λ inputs j same. none budget job text inputs.description inputs.meshes j tree is written }
-decision_for strict budget plan job text (Decisions.Spent tree) is zero unspent written = record { each = λ inputs j same. inl (spent budget job text inputs.description inputs.meshes j tree is (λ full f within. unspent full f within tt) written) }
-decision_for strict budget plan job text (Decisions.Wide note tree) is zero unspent written = record { each = λ inputs j same. inr (wide budget job text inputs.description inputs.meshes j note tree is written) }
+decision_for strict budget plan job text (Decisions.Spent tree) is zero unspent written = record { each = λ inputs j same. unfound budget job text inputs j zero (inl (spent budget job text inputs.description inputs.meshes j tree is (λ full f within. unspent full f within tt) written)) }
+decision_for strict budget plan job text (Decisions.Wide note tree) is zero unspent written = record { each = λ inputs j same. unfound budget job text inputs j zero (inr (wide budget job text inputs.description inputs.meshes j note tree is written)) }
 
 pub decision_file : (job : Job) (budget : ℕ) (decision : Decision) → IsDecision job job.printer.grid budget decision → IsPlanFile (file_of job.printer.grid decision)
 decision_file job budget decision is = (decision_stated job budget decision is).plan.spelled

@@ -1,18 +1,22 @@
 -- What a run answers, over the bytes of the files.
 --
 --   PrintsSlices d ms text         the text is that of the bands and zones of the object of the one mesh
+--   PrintsUndecided inputs b text  the text says why the whole plate is left undecided
+--   PrintsUnfound inputs b text    so does it, and the plan of the zero point isn't valid in any order: else it is found
 --   Prints task inputs v text      the text is one that the task prints with this verdict
 --   Answers files a v notes text   the files can be used, and state one plan at most; the text is one of this verdict for them, and
 --                                  these are the notes
 use Rattle.std.specs.Prelude.{◌≡◌, ◌⊎◌, ℕ, List, [], ◌∷◌, Option}
+use Rattle.node_looks.specs.Looks.{HasZeroPlan}
 use Rattle.run_files.specs.Files.{AreUsable, Inputs, IsOnlyPlan, IsPrinterFor, NamedMesh}
-use Rattle.run_files.specs.Jobs.{IsObjectFor}
+use Rattle.run_files.specs.Jobs.{IsJobOf, IsObjectFor}
 use Rattle.run_files.specs.Notes.{AreNotesFor}
 use Rattle.run_files.specs.declared.words.Asked.{Asked}
 use Rattle.run_files.specs.declared.words.Task.{Task}
 use Rattle.run_files.specs.declared.words.Task.TheVariants as Tasks
 use Rattle.seq_io.specs.declared.mem_file.MemFile.{MemFile}
 use Rattle.seq_model.specs.Scenes.{Description}
+use Rattle.seq_model.specs.declared.job.Job.{Job}
 use Rattle.seq_model.specs.declared.job.Object.{Object}
 use Rattle.seq_model.specs.declared.printer.Printer.{Printer}
 use Rattle.seq_run.specs.Arranged.{PrintsLeast, PrintsNone, PrintsOpen, PrintsPlan, PrintsSpent, PrintsWide}
@@ -30,15 +34,20 @@ pub record PrintsSlices (d : Description) (meshes : List NamedMesh) (text : List
   pub object_is : IsObjectFor printer mesh object
   pub is : text ≡ slices_text object
 
--- why the whole plate is left undecided
 abbrev pub PrintsUndecided : Inputs → ℕ → List ℕ → Type 0
 PrintsUndecided inputs budget text = PrintsSpent inputs.description inputs.meshes budget text ⊎ PrintsWide inputs.description inputs.meshes text
+
+pub record PrintsUnfound (inputs : Inputs) (budget : ℕ) (text : List ℕ) : Type 0 where
+  pub undecided : PrintsUndecided inputs budget text
+  pub job : Job
+  pub is_job : IsJobOf inputs.description inputs.meshes job
+  pub no_zero_plan : HasZeroPlan job inputs.description.grid → ⊥
 
 abbrev pub Prints : Task → Inputs → Verdict → List ℕ → Type 0
 Prints (Tasks.Arrange strict budget) inputs Verdicts.Done text = PrintsPlan inputs.description inputs.meshes text
 Prints (Tasks.Arrange strict budget) inputs Verdicts.NoPlan text = PrintsNone inputs.description inputs.meshes budget text
 Prints (Tasks.Arrange strict budget) inputs Verdicts.Open text = ⊥
-Prints (Tasks.Arrange strict budget) inputs Verdicts.Undecided text = PrintsUndecided inputs budget text
+Prints (Tasks.Arrange strict budget) inputs Verdicts.Undecided text = PrintsUnfound inputs budget text
 Prints (Tasks.Arrange strict budget) inputs Verdicts.Fault text = ⊥
 Prints (Tasks.Least strict budget) inputs Verdicts.Done text = PrintsLeast inputs.description inputs.meshes budget text
 Prints (Tasks.Least strict budget) inputs Verdicts.NoPlan text = PrintsNone inputs.description inputs.meshes budget text
