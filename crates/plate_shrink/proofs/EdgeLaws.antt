@@ -88,7 +88,8 @@ module _ (job : Job) (e : ℕ) (x y : ℤ) where
   lies_first : (a b : Edges) → LiesAt job e x y (joined a b) → LiesAt job e x y a × LiesAt job e x y b
   lies_first a b l = (
     record { west = omega (arith, ints, clamps, l.west); east = omega (arith, ints, clamps, l.east); south = omega (arith, ints, clamps, l.south); north = omega (arith, ints, clamps, l.north) },
-    record { west = omega (arith, ints, clamps, l.west); east = omega (arith, ints, clamps, l.east); south = omega (arith, ints, clamps, l.south); north = omega (arith, ints, clamps, l.north) })
+    record { west = omega (arith, ints, clamps, l.west); east = omega (arith, ints, clamps, l.east); south = omega (arith, ints, clamps, l.south); north = omega (arith, ints, clamps, l.north) },
+  )
 
   pub lies_with : (s : ℤ) (all : Edges) (places : List Place) → LiesAt job e x y all → All (λ p. LiesAt job e x y (edges_of job s p)) places → LiesAt job e x y (edges_with job s all places)
   lies_with s all [] l each = l

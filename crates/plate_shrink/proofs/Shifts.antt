@@ -83,6 +83,6 @@ valid_moved scene e f x y plan v one grid inside = record {
       let p : get_or (map (moved_by s x y) plan.places) i d ≡ moved_by s x y (get_or plan.places i d) = get_or-map (moved_by s x y) plan.places i d d (omega (arith, less, there)) in
       let r : get_or (map (moved_by s x y) plan.places) j d ≡ moved_by s x y (get_or plan.places j d) = get_or-map (moved_by s x y) plan.places j d d there in
       let hit = subst (λ (b : Place). Collides scene (moved_by s x y (get_or plan.places i d)).object (place_point s (moved_by s x y (get_or plan.places i d))) b.object (place_point s b)) r
-          (subst (λ (a : Place). Collides scene a.object (place_point s a) (get_or (map (moved_by s x y) plan.places) j d).object (place_point s (get_or (map (moved_by s x y) plan.places) j d))) p hits) in
+      (subst (λ (a : Place). Collides scene a.object (place_point s a) (get_or (map (moved_by s x y) plan.places) j d).object (place_point s (get_or (map (moved_by s x y) plan.places) j d))) p hits) in
       v.apart i j d less there (collides_back scene s x y (get_or plan.places i d) (get_or plan.places j d) (get_or plan.places i d).object (get_or plan.places j d).object hit));
 }
