@@ -3,7 +3,7 @@ ghost use Rattle.seq_run.specs.Statuses.{code_of, code_of_verdict, status_of};
 
 use run_files::Stop;
 
-/// What is said of the files' job where all of them can be used.
+/// What is said of the job of files that can be used, or that a trial made.
 #[derive(Clone, Copy, PartialEq, Eq, Debug)]
 pub enum Verdict {
     /// A plan was found, or the least extent; the plan that was given is valid, its claim passes; or the outlines are printed.
@@ -41,7 +41,7 @@ fn code_of_verdict(verdict: Verdict) -> u8
     }
 }
 
-/// The exit status. The numbers stand here and in the clauses of `run` alone.
+/// The exit status. Its numbers are those of `specs/Statuses`, of which the clauses of `run` speak.
 pub fn code_of(status: Status) -> u8
     ensures { result ≡ code_of status }
 {

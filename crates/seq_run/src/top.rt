@@ -147,7 +147,8 @@ pub fn run<S: Shelf, O: Sink, E: Sink>(
     ensures statuses { result ≤ 9 }
 
     // 0: `err` took the notes, and then `out` the whole text: of a plan that is valid on the plate; of a plan at the least extent, with
-    // the certificate for the one below; of the object's bands; or that the plan that was given is valid, or its claim passes.
+    // the certificate for the one below; of the object's bands; or that the plan that was given is valid, or its claim passes. Of a
+    // trial it took the summary, and then such a plan; `err` took nothing.
     ensures found { result ≡ 0 → HasAnswered Verdict.Done (texts words.now.items)
         (S.shows shelf.old) (S.shows shelf.new)
         (E.shows err.old) (E.shows err.new) (O.shows out.old) (O.shows out.new) }
