@@ -8,8 +8,8 @@
 #![tactic(auto)]
 
 ghost use Rattle.std.specs.Prelude.{ℕ, ◌-◌, Option};
-ghost use Rattle.claim_checker.specs.Claims.{IsClaim};
-ghost use Rattle.claim_checker.specs.declared.verdict.Claim.TheVariants.{Passes};
+ghost use Rattle.claim_checker.specs.Claims.{IsJudgement};
+ghost use Rattle.claim_checker.specs.declared.verdict.Judgement.TheVariants.{Passes};
 ghost use Rattle.decision_text.specs.DecisionText.{block_for, block_of, file_for, file_of};
 ghost use Rattle.plate_shrink.specs.Outcomes.{IsOutcome};
 ghost use Rattle.plate_shrink.specs.declared.outcome.Outcome.TheVariants.{Least, NoPlan};
@@ -23,13 +23,13 @@ ghost use Rattle.seq_model.specs.declared.tree.Tree.{Tree};
 pub fn what_a_search_claims_passes()
     ensures refuted { (job : Job) (budget : ℕ) (tree : Tree)
         → IsDecision job job.printer.grid budget (Refuted tree)
-        → IsClaim job (file_of job.printer.grid (Refuted tree)) (block_of job.printer.grid (Refuted tree))
+        → IsJudgement job (file_of job.printer.grid (Refuted tree)) (block_of job.printer.grid (Refuted tree))
         (Passes job.printer.grid) }
     ensures none { (job : Job) (budget : ℕ) (tree : Tree) → IsOutcome job budget (NoPlan tree)
-        → IsClaim job (file_for job.printer.grid (NoPlan tree)) (block_for job.printer.grid (NoPlan tree))
+        → IsJudgement job (file_for job.printer.grid (NoPlan tree)) (block_for job.printer.grid (NoPlan tree))
         (Passes job.printer.grid) }
     ensures least { (job : Job) (budget : ℕ) (plan : Plan) (e : ℕ) (tree : Option Tree)
         → IsOutcome job budget (Least plan e tree)
-        → IsClaim job (file_for job.printer.grid (Least plan e tree))
+        → IsJudgement job (file_for job.printer.grid (Least plan e tree))
         (block_for job.printer.grid (Least plan e tree)) (Passes (e - 1)) }
 {}

@@ -3,14 +3,14 @@
 --     check passes 45
 --     check fails node 3 sum
 --
---   word_of rule        the word of a rule
---   node_line k rule    the line of a node that breaks a rule
---   check_text claim    the line of a judgement
+--   word_of rule           the word of a rule
+--   node_line k rule       the line of a node that breaks a rule
+--   check_text judgement   the line of a judgement
 use Rattle.std.specs.Prelude.{ℕ, pos, List, ◌++◌, codes}
 use Rattle.cert_checker.specs.declared.rules.Rule.{Rule}
 use Rattle.cert_checker.specs.declared.rules.Rule.TheVariants as Rules
-use Rattle.claim_checker.specs.declared.verdict.Claim.{Claim}
-use Rattle.claim_checker.specs.declared.verdict.Claim.TheVariants as Claims
+use Rattle.claim_checker.specs.declared.verdict.Judgement.{Judgement}
+use Rattle.claim_checker.specs.declared.verdict.Judgement.TheVariants as Judgements
 use Rattle.claim_checker.specs.declared.verdict.Fault.TheVariants as Faults
 use Rattle.seq_num.specs.Spelling.{spelling}
 use Rattle.text_lines.specs.Lines.{number_line}
@@ -29,10 +29,10 @@ word_of Rules.Cycle = codes "cycle"
 unfoldable pub node_line : ℕ → Rule → List ℕ
 node_line k rule = codes "check fails node " ++ (spelling (pos k) ++ (codes " " ++ (word_of rule ++ codes "\n")))
 
-abbrev pub check_text : Claim → List ℕ
-check_text (Claims.Passes x) = number_line (codes "check passes ") (pos x)
-check_text (Claims.Fails Faults.State) = codes "check fails state\n"
-check_text (Claims.Fails Faults.Grid) = codes "check fails grid\n"
-check_text (Claims.Fails Faults.Plan) = codes "check fails plan\n"
-check_text (Claims.Fails Faults.Excludes) = codes "check fails excludes\n"
-check_text (Claims.Fails (Faults.Node k rule)) = node_line k rule
+abbrev pub check_text : Judgement → List ℕ
+check_text (Judgements.Passes x) = number_line (codes "check passes ") (pos x)
+check_text (Judgements.Fails Faults.State) = codes "check fails state\n"
+check_text (Judgements.Fails Faults.Grid) = codes "check fails grid\n"
+check_text (Judgements.Fails Faults.Plan) = codes "check fails plan\n"
+check_text (Judgements.Fails Faults.Excludes) = codes "check fails excludes\n"
+check_text (Judgements.Fails (Faults.Node k rule)) = node_line k rule

@@ -8,7 +8,7 @@ ghost use Rattle.std.specs.Prelude.{◌≡◌, ◌++◌, codes, IfOk, OnOk};
 ghost use Rattle.check_text.specs.CheckText.{check_text, node_line, word_of};
 
 use cert_checker::Rule;
-use claim_checker::{Claim, Fault};
+use claim_checker::{Fault, Judgement};
 use std::alloc::{AllocError, Global};
 use text_lines::{put_line, put_number};
 
@@ -47,17 +47,17 @@ fn put_node(to: &mut Vec<u8>, number: u64, rule: Rule) -> Result<(), AllocError>
 }
 
 /// The line of a judgement.
-pub fn check_text(alloc: Global, claim: Claim) -> Result<Vec<u8>, AllocError>
-    ensures { IfOk result (λ text. text.items ≡ check_text claim) }
+pub fn check_text(alloc: Global, judgement: Judgement) -> Result<Vec<u8>, AllocError>
+    ensures { IfOk result (λ text. text.items ≡ check_text judgement) }
 {
     let mut text = Vec::new(alloc);
-    match claim {
-        Claim::Passes(extent) => put_line(&mut text, b"check passes ", i128::from(extent))?,
-        Claim::Fails(Fault::State) => text.extend_from_slice(b"check fails state\n")?,
-        Claim::Fails(Fault::Grid) => text.extend_from_slice(b"check fails grid\n")?,
-        Claim::Fails(Fault::Plan) => text.extend_from_slice(b"check fails plan\n")?,
-        Claim::Fails(Fault::Excludes) => text.extend_from_slice(b"check fails excludes\n")?,
-        Claim::Fails(Fault::Node(number, rule)) => put_node(&mut text, number, rule)?,
+    match judgement {
+        Judgement::Passes(extent) => put_line(&mut text, b"check passes ", i128::from(extent))?,
+        Judgement::Fails(Fault::State) => text.extend_from_slice(b"check fails state\n")?,
+        Judgement::Fails(Fault::Grid) => text.extend_from_slice(b"check fails grid\n")?,
+        Judgement::Fails(Fault::Plan) => text.extend_from_slice(b"check fails plan\n")?,
+        Judgement::Fails(Fault::Excludes) => text.extend_from_slice(b"check fails excludes\n")?,
+        Judgement::Fails(Fault::Node(number, rule)) => put_node(&mut text, number, rule)?,
     }
     Ok(text)
 }

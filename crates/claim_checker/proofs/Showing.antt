@@ -1,12 +1,12 @@
 -- What a claim that passes shows.
 --
---   claim_by         a judgement of the block is one of the claim, where the tests before it hold
+--   judgement_by     a judgement of the block is one of the claim, where the tests before it hold
 --   shown            a claim that passes shows what it says
 use Rattle.std.proofs.Common.{◌≡◌, inl, inr, ℕ, zero, suc, ◌≤◌, true, Option, Some, None, refl, subst, ap, arith}
 use Rattle.cert_text.specs.declared.block.Head.{Head}
-use Rattle.claim_checker.specs.Claims.{CanBeChecked, HasPlanAsSaid, IsBlockClaim, IsClaim, Shows, excluded_by, excluded_in}
-use Rattle.claim_checker.specs.declared.verdict.Claim.{Claim}
-use Rattle.claim_checker.specs.declared.verdict.Claim.TheVariants as Claims
+use Rattle.claim_checker.specs.Claims.{CanBeChecked, HasPlanAsSaid, IsBlockJudgement, IsJudgement, Shows, excluded_by, excluded_in}
+use Rattle.claim_checker.specs.declared.verdict.Judgement.{Judgement}
+use Rattle.claim_checker.specs.declared.verdict.Judgement.TheVariants as Judgements
 use Rattle.plan_text.specs.PlanText.{IsPlanFile, has_places}
 use Rattle.plan_text.specs.declared.file.PlanFile.{PlanFile}
 use Rattle.plan_text.specs.declared.file.State.{State}
@@ -19,19 +19,19 @@ use Rattle.seq_model.specs.declared.job.Job.{Job}
 use Rattle.seq_model.specs.declared.plan.Plan.{Plan}
 use Rattle.seq_model.specs.declared.tree.Tree.{Tree}
 
-pub claim_by : (job : Job) (file : PlanFile) (block : Option (Head × Tree)) (e : ℕ) (claim : Claim) → CanBeChecked file.state
-    → file.grid ≡ job.printer.grid → HasPlanAsSaid job file → e ≡ excluded_by file → IsBlockClaim job e block claim → IsClaim job file block claim
-claim_by job file block e claim state grid plan same is = inr (state, inr (grid, inr (plan, subst (λ x. IsBlockClaim job x block claim) same is)))
+pub judgement_by : (job : Job) (file : PlanFile) (block : Option (Head × Tree)) (e : ℕ) (judgement : Judgement) → CanBeChecked file.state
+    → file.grid ≡ job.printer.grid → HasPlanAsSaid job file → e ≡ excluded_by file → IsBlockJudgement job e block judgement → IsJudgement job file block judgement
+judgement_by job file block e judgement state grid plan same is = inr (state, inr (grid, inr (plan, subst (λ x. IsBlockJudgement job x block judgement) same is)))
 
 -- some tree refutes the extent, where one is excluded
 abbrev IsRefuted : Job → ℕ → Type 0
 IsRefuted job zero = Unit {0}
 IsRefuted job (suc e) = (tree : Tree) × TreeRefutes job (suc e) tree
 
-number_of_pass : (x y : ℕ) → Claims.Passes x ≡ Claims.Passes y → x ≡ y
+number_of_pass : (x y : ℕ) → Judgements.Passes x ≡ Judgements.Passes y → x ≡ y
 number_of_pass x y same = cc same
 
-passed : (job : Job) (e : ℕ) (block : Option (Head × Tree)) (x : ℕ) → IsBlockClaim job e block (Claims.Passes x) → (x ≡ e) × IsRefuted job e
+passed : (job : Job) (e : ℕ) (block : Option (Head × Tree)) (x : ℕ) → IsBlockJudgement job e block (Judgements.Passes x) → (x ≡ e) × IsRefuted job e
 passed job zero block x is = (number_of_pass x 0 is, tt)
 passed job (suc e) None x is = absurd is
 passed job (suc e) (Some b) x (inl bad) = absurd (cc (bad.0))
@@ -75,7 +75,7 @@ shown_by job file x spelt grid plan number refuted = record {
     below : (e : ℕ) (q : Plan) → e ≤ x → Valid (scene_of_job job) e q → ⊥
     below e q l valid = none_below job (excluded_by file) within refuted e q (omega (arith, l, number)) valid
 
-shown_pass : (job : Job) (file : PlanFile) (block : Option (Head × Tree)) (x : ℕ) → IsPlanFile file → IsClaim job file block (Claims.Passes x) → Shows (scene_of_job job) file x
+shown_pass : (job : Job) (file : PlanFile) (block : Option (Head × Tree)) (x : ℕ) → IsPlanFile file → IsJudgement job file block (Judgements.Passes x) → Shows (scene_of_job job) file x
 shown_pass job file block x spelt (inl bad) = absurd (cc (bad.0))
 shown_pass job file block x spelt (inr (state, inl bad)) = absurd (cc (bad.0))
 shown_pass job file block x spelt (inr (state, inr (grid, inl bad))) = absurd (cc (bad.0))
@@ -83,6 +83,6 @@ shown_pass job file block x spelt (inr (state, inr (grid, inr (plan, is)))) =
     let r = passed job (excluded_by file) block x is in
     shown_by job file x spelt grid plan r.0 r.1
 
-pub shown : (job : Job) (file : PlanFile) (block : Option (Head × Tree)) (claim : Claim) (x : ℕ) → IsPlanFile file → IsClaim job file block claim → claim ≡ Claims.Passes x
+pub shown : (job : Job) (file : PlanFile) (block : Option (Head × Tree)) (judgement : Judgement) (x : ℕ) → IsPlanFile file → IsJudgement job file block judgement → judgement ≡ Judgements.Passes x
     → Shows (scene_of_job job) file x
-shown job file block claim x spelt is same = shown_pass job file block x spelt (subst (IsClaim job file block) same is)
+shown job file block judgement x spelt is same = shown_pass job file block x spelt (subst (IsJudgement job file block) same is)

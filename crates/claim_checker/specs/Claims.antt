@@ -4,10 +4,10 @@
 --   excluded_by file           the extent that the file excludes: the one below its own, or the whole plate; 0 where there is none
 --   HasPlanAsSaid job file     the plan of a least extent is valid there
 --   HasBlock e block           where an extent is excluded there is a block, and its nodes are spelt and one whole tree
---   unless P fault claim later   the fault is answered and P doesn't hold, or P holds and the rest of the list says what is answered
---   IsTreeClaim job e tree c   the tree refutes the extent, or its first node that breaks a rule is answered
---   IsBlockClaim job e block c where an extent is excluded: the block's own number is it, and then what is said of its tree
---   IsClaim job file block c   the judgement: the first of these that doesn't hold, in this order; or that the claim passes
+--   unless P fault j later     the fault is the judgement j and P doesn't hold, or P holds and the rest of the list says which it is
+--   IsTreeJudgement job e tree j     the tree refutes the extent, or the judgement is its first node that breaks a rule
+--   IsBlockJudgement job e block j   where an extent is excluded: the block's own number is it, and then what is said of its tree
+--   IsJudgement job file block j     the judgement: the first of these that doesn't hold, in this order; or that the claim passes
 --   Shows scene file x         what a claim that passes with the number x shows of the scene of its job: no plan is valid at x nor below;
 --                              for a least extent its plan is valid there, and it is the least; where no plan is claimed there is none
 --                              at any extent
@@ -15,8 +15,8 @@ use Rattle.std.specs.Prelude.{◌≡◌, ◌⊎◌, ℕ, zero, suc, ◌-◌, ◌
 use Rattle.cert_checker.specs.Rules.{IsFirstBroken}
 use Rattle.cert_text.specs.TreeText.{IsSpelt}
 use Rattle.cert_text.specs.declared.block.Head.{Head}
-use Rattle.claim_checker.specs.declared.verdict.Claim.{Claim}
-use Rattle.claim_checker.specs.declared.verdict.Claim.TheVariants as Claims
+use Rattle.claim_checker.specs.declared.verdict.Judgement.{Judgement}
+use Rattle.claim_checker.specs.declared.verdict.Judgement.TheVariants as Judgements
 use Rattle.claim_checker.specs.declared.verdict.Fault.{Fault}
 use Rattle.claim_checker.specs.declared.verdict.Fault.TheVariants as Faults
 use Rattle.plan_text.specs.declared.file.PlanFile.{PlanFile}
@@ -62,28 +62,28 @@ HasBlock zero block = Unit {0}
 HasBlock (suc e) None = ⊥
 HasBlock (suc e) (Some b) = IsReadTree b.1
 
-abbrev pub unless : Type 0 → Fault → Claim → Type 0 → Type 0
-unless P fault claim later = ((claim ≡ Claims.Fails fault) × (P → ⊥)) ⊎ (P × later)
+abbrev pub unless : Type 0 → Fault → Judgement → Type 0 → Type 0
+unless P fault judgement later = ((judgement ≡ Judgements.Fails fault) × (P → ⊥)) ⊎ (P × later)
 
-abbrev pub IsTreeClaim : Job → ℕ → Tree → Claim → Type 0
-IsTreeClaim job e tree (Claims.Passes x) = (x ≡ e) × TreeRefutes job e tree
-IsTreeClaim job e tree (Claims.Fails Faults.State) = ⊥
-IsTreeClaim job e tree (Claims.Fails Faults.Grid) = ⊥
-IsTreeClaim job e tree (Claims.Fails Faults.Plan) = ⊥
-IsTreeClaim job e tree (Claims.Fails Faults.Excludes) = ⊥
-IsTreeClaim job e tree (Claims.Fails (Faults.Node k rule)) = IsFirstBroken job e tree.nodes k rule
+abbrev pub IsTreeJudgement : Job → ℕ → Tree → Judgement → Type 0
+IsTreeJudgement job e tree (Judgements.Passes x) = (x ≡ e) × TreeRefutes job e tree
+IsTreeJudgement job e tree (Judgements.Fails Faults.State) = ⊥
+IsTreeJudgement job e tree (Judgements.Fails Faults.Grid) = ⊥
+IsTreeJudgement job e tree (Judgements.Fails Faults.Plan) = ⊥
+IsTreeJudgement job e tree (Judgements.Fails Faults.Excludes) = ⊥
+IsTreeJudgement job e tree (Judgements.Fails (Faults.Node k rule)) = IsFirstBroken job e tree.nodes k rule
 
-abbrev pub IsBlockClaim : Job → ℕ → Option (Head × Tree) → Claim → Type 0
-IsBlockClaim job zero block claim = claim ≡ Claims.Passes 0
-IsBlockClaim job (suc e) None claim = ⊥
-IsBlockClaim job (suc e) (Some b) claim = unless (b.0.extent ≡ suc e) Faults.Excludes claim (IsTreeClaim job (suc e) b.1 claim)
+abbrev pub IsBlockJudgement : Job → ℕ → Option (Head × Tree) → Judgement → Type 0
+IsBlockJudgement job zero block judgement = judgement ≡ Judgements.Passes 0
+IsBlockJudgement job (suc e) None judgement = ⊥
+IsBlockJudgement job (suc e) (Some b) judgement = unless (b.0.extent ≡ suc e) Faults.Excludes judgement (IsTreeJudgement job (suc e) b.1 judgement)
 
-abbrev pub IsClaim : Job → PlanFile → Option (Head × Tree) → Claim → Type 0
-IsClaim job file block claim =
-    unless (CanBeChecked file.state) Faults.State claim
-    (unless (file.grid ≡ job.printer.grid) Faults.Grid claim
-    (unless (HasPlanAsSaid job file) Faults.Plan claim
-    (IsBlockClaim job (excluded_by file) block claim)))
+abbrev pub IsJudgement : Job → PlanFile → Option (Head × Tree) → Judgement → Type 0
+IsJudgement job file block judgement =
+    unless (CanBeChecked file.state) Faults.State judgement
+    (unless (file.grid ≡ job.printer.grid) Faults.Grid judgement
+    (unless (HasPlanAsSaid job file) Faults.Plan judgement
+    (IsBlockJudgement job (excluded_by file) block judgement)))
 
 pub record Shows (scene : Scene) (file : PlanFile) (x : ℕ) : Type 0 where
   pub number : x ≡ excluded_by file

@@ -1,6 +1,6 @@
 //! The judgement of what a plan file claims: that an extent is the least one, or that there is no plan.
 //!
-//! `claim` tests in this order: the state makes such a claim, the grid is the printer's, the plan of a least extent is valid there, the
+//! `judge` tests in this order: the state makes such a claim, the grid is the printer's, the plan of a least extent is valid there, the
 //! block excludes the extent that is due, and then the nodes of its tree. It answers that all hold, or the first that doesn't
 //! (`specs/Claims.antt`). A claim that passes is true, over all orders and all rational places, whoever wrote the file.
 //!
@@ -10,5 +10,5 @@
 mod judging;
 mod verdict;
 
-pub use judging::claim;
-pub use verdict::{Claim, Fault};
+pub use judging::judge;
+pub use verdict::{Fault, Judgement};

@@ -15,9 +15,9 @@ pub enum Fault {
     Node(u64, Rule),
 }
 
-/// What is said of a claim.
+/// What is said of a claim: what a check finds.
 #[derive(Clone, Copy, Debug, PartialEq, Eq)]
-pub enum Claim {
+pub enum Judgement {
     /// It is true, and this extent is excluded: 0 where there is nothing to exclude.
     Passes(u32),
     Fails(Fault),

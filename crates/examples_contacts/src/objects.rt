@@ -14,48 +14,56 @@ use std::alloc::{AllocError, Global};
 static PRINTER: &[u8] =
     b"format = 1\ngrain = 1\nplate = [100, 100]\nstep = 10\nmargin = 1\ngrid = 100\n\n[[part]]\nname = \"nozzle\"\nfrom = 0\ncorners = [[-2, -2], [2, -2], [2, 2], [-2, 2]]\n\n[[part]]\nname = \"gantry\"\nfrom = 20\nbar = \"x\"\nlow = -10\nhigh = 10\n";
 
-// A band of 10 mm, and corners in millimetres.
-type Triangle = (u8, (u8, u8), (u8, u8), (u8, u8));
+// Three corners, each (x, y, z) in millimetres.
+type Corner = (u8, u8, u8);
 
-// One zone: from -1 to 21 grains each way.
+type Triangle = [Corner; 3];
+
+// The prism over a square of 20 mm: its floor, its top, and two triangles for each wall. One zone: from -1 to 21 grains each way.
 static CUBE: &[Triangle] = &[
-    (0, (0, 0), (20, 0), (20, 20)),
-    (0, (0, 0), (20, 20), (0, 20)),
-    (1, (0, 0), (20, 0), (20, 20)),
-    (1, (0, 0), (20, 20), (0, 20)),
+    [(0, 0, 0), (20, 20, 0), (20, 0, 0)],
+    [(0, 0, 0), (0, 20, 0), (20, 20, 0)],
+    [(0, 0, 20), (20, 0, 20), (20, 20, 20)],
+    [(0, 0, 20), (20, 20, 20), (0, 20, 20)],
+    [(0, 0, 0), (20, 0, 0), (20, 0, 20)],
+    [(0, 0, 0), (20, 0, 20), (0, 0, 20)],
+    [(20, 0, 0), (20, 20, 0), (20, 20, 20)],
+    [(20, 0, 0), (20, 20, 20), (20, 0, 20)],
+    [(20, 20, 0), (0, 20, 0), (0, 20, 20)],
+    [(20, 20, 0), (0, 20, 20), (20, 20, 20)],
+    [(0, 20, 0), (0, 0, 0), (0, 0, 20)],
+    [(0, 20, 0), (0, 0, 20), (0, 20, 20)],
 ];
 
-// Two zones: from (4, -1) to (11, 21); and (4, 2), (16, 2), (16, 4), (6, 9), (4, 9).
+// Two zones: from (4, -1) to (11, 21); and (4, 2), (16, 2), (16, 4), (6, 9), (4, 9). Each triangle keeps off the borders of its
+// band, since a point there would be in two.
 static TOWER: &[Triangle] = &[
-    (0, (5, 0), (10, 0), (10, 20)),
-    (0, (5, 0), (10, 20), (5, 20)),
-    (1, (5, 0), (10, 0), (10, 20)),
-    (1, (5, 0), (10, 20), (5, 20)),
-    (2, (5, 3), (15, 3), (5, 8)),
-    (3, (5, 3), (15, 3), (5, 8)),
-    (4, (5, 3), (15, 3), (5, 8)),
+    [(5, 0, 0), (10, 0, 0), (10, 20, 8)],
+    [(5, 0, 0), (10, 20, 0), (5, 20, 8)],
+    [(5, 0, 11), (10, 0, 11), (10, 20, 19)],
+    [(5, 0, 11), (10, 20, 11), (5, 20, 19)],
+    [(5, 3, 21), (15, 3, 21), (5, 8, 29)],
+    [(5, 3, 31), (15, 3, 31), (5, 8, 39)],
+    [(5, 3, 41), (15, 3, 41), (5, 8, 49)],
 ];
 
-fn point(place: (u8, u8), z: u32) -> Point3
-    requires { z ≤ 3_000_000 }
+fn point(corner: Corner) -> Point3
     ensures { IsNear result }
 {
     Point3 {
-        x: i64::from(place.0) * 1_000,
-        y: i64::from(place.1) * 1_000,
-        z: i64::from(z),
+        x: i64::from(corner.0) * 1_000,
+        y: i64::from(corner.1) * 1_000,
+        z: i64::from(corner.2) * 1_000,
     }
 }
 
 fn facet(triangle: &Triangle) -> Facet
     ensures { IsNearFacet result }
 {
-    // a point on the border of two bands would be in both
-    let low = u32::from(triangle.0) * 10_000 + u32::from(triangle.0.min(1)) * 1_000;
     Facet {
-        a: point(triangle.1, low),
-        b: point(triangle.2, low),
-        c: point(triangle.3, low + 8_000),
+        a: point(triangle[0]),
+        b: point(triangle[1]),
+        c: point(triangle[2]),
     }
 }
 
@@ -101,15 +109,24 @@ fn two_objects(alloc: Global, first: Object, second: Object) -> Result<Items<Obj
     Ok(objects)
 }
 
-/// The cube and the tower.
-pub fn job(alloc: Global) -> Option<Job> {
+fn job_of(alloc: Global, first: &[Triangle], second: &[Triangle]) -> Option<Job> {
     let printer = read_printer(alloc, PRINTER).ok()?;
-    let cube = object_of(alloc, CUBE, &printer)?;
-    let tower = object_of(alloc, TOWER, &printer)?;
-    let Ok(objects) = two_objects(alloc, cube, tower) else {
+    let first = object_of(alloc, first, &printer)?;
+    let second = object_of(alloc, second, &printer)?;
+    let Ok(objects) = two_objects(alloc, first, second) else {
         return None;
     };
     Some(Job { printer, objects })
+}
+
+/// The cube and the tower.
+pub fn job(alloc: Global) -> Option<Job> {
+    job_of(alloc, CUBE, TOWER)
+}
+
+/// The cube twice.
+pub fn two_cubes(alloc: Global) -> Option<Job> {
+    job_of(alloc, CUBE, CUBE)
 }
 
 /// Whether this is a contact of the job.

@@ -1,7 +1,7 @@
 ghost use Rattle.std.specs.Prelude.{◌≡◌, ◌<◌, ◌^◌, unsigned_abs};
 ghost use Rattle.pair_constraints.specs.KeptSides.{AreKeptSides};
 
-use crate::objects::{is_contact, job};
+use crate::objects::{is_contact, job, two_cubes};
 use pair_constraints::{
     Contacts, Kept, KeptSides, Limit, SolvedPoint, collides, keep, next_contact,
 };
@@ -68,6 +68,23 @@ const TRIANGLE_GANTRY: Contact = Contact {
     j: 0,
 };
 
+// Two cubes, one printed after the other, by the tip and by the nozzle.
+const CUBES_TIP: Contact = Contact {
+    i: 0,
+    zi: 0,
+    part: 0,
+    zj: 0,
+    j: 1,
+};
+
+const CUBES: Contact = Contact {
+    i: 0,
+    zi: 0,
+    part: 1,
+    zj: 0,
+    j: 1,
+};
+
 // By how far the later object stands east and north of the earlier one, over a scale; whether the contact collides.
 static COLLIDING: [(Contact, (i64, i64), u32, bool); 9] = [
     // the cube and the bar by the tip: from -12 to 17, and from -22 to 22
@@ -84,6 +101,13 @@ static COLLIDING: [(Contact, (i64, i64), u32, bool); 9] = [
     (TRIANGLE, (17, 8), 1, false),
     // no contact: the gantry passes above the bar
     (BAR_GANTRY, (0, 0), 1, false),
+];
+
+// By the tip, two cubes are apart from 22 grains on, by the nozzle from 24 on.
+static CUBES_COLLIDING: [(Contact, (i64, i64), u32, bool); 3] = [
+    (CUBES, (24, 0), 1, false),
+    (CUBES, (47, 0), 2, true),
+    (CUBES_TIP, (47, 0), 2, false),
 ];
 
 fn place(object: u32, at: (i64, i64)) -> Place
@@ -116,6 +140,15 @@ fn is_colliding(job: &Job, contact: &Contact, at: (i64, i64), scale: u32) -> boo
 fn contacts_collide(rt: HostRuntime) -> Result<(), Fail> {
     let job = job(rt.alloc()).ok_or("no job")?;
     for (contact, at, scale, wanted) in &COLLIDING {
+        assert_eq!(rt; is_colliding(&job, contact, *at, *scale), *wanted);
+    }
+    Ok(())
+}
+
+#[test]
+fn two_cubes_collide_below_24_by_the_nozzle(rt: HostRuntime) -> Result<(), Fail> {
+    let job = two_cubes(rt.alloc()).ok_or("no job")?;
+    for (contact, at, scale, wanted) in &CUBES_COLLIDING {
         assert_eq!(rt; is_colliding(&job, contact, *at, *scale), *wanted);
     }
     Ok(())
@@ -205,6 +238,8 @@ static ASKED: [(Contact, &[(i64, i64)]); 4] = [
     (TRIANGLE_GANTRY, &[(1, 0), (1, 2), (0, 1), (-1, 0), (0, -1)]),
 ];
 
+static CUBES_ASKED: [(Contact, &[(i64, i64)]); 1] = [(CUBES, &[(1, 0), (0, 1), (-1, 0), (0, -1)])];
+
 fn are_directions(dirs: &[Dir], pairs: &[(i64, i64)]) -> bool {
     if dirs.len() != pairs.len() {
         return false;
@@ -236,9 +271,9 @@ fn has_sides(
     }
 }
 
-fn all_have_sides(alloc: Global, job: &Job) -> bool {
+fn all_have_sides(alloc: Global, job: &Job, asked: &[(Contact, &[(i64, i64)])]) -> bool {
     let mut kept = KeptSides::new(alloc);
-    for (contact, pairs) in &ASKED {
+    for (contact, pairs) in asked {
         if !has_sides(alloc, job, &mut kept, contact, pairs) {
             return false;
         }
@@ -249,7 +284,14 @@ fn all_have_sides(alloc: Global, job: &Job) -> bool {
 #[test]
 fn each_contact_keeps_its_own_sides(rt: HostRuntime) -> Result<(), Fail> {
     let job = job(rt.alloc()).ok_or("no job")?;
-    assert!(rt; all_have_sides(rt.alloc(), &job));
+    assert!(rt; all_have_sides(rt.alloc(), &job, &ASKED));
+    Ok(())
+}
+
+#[test]
+fn two_cubes_have_four_sides_by_the_nozzle(rt: HostRuntime) -> Result<(), Fail> {
+    let job = two_cubes(rt.alloc()).ok_or("no job")?;
+    assert!(rt; all_have_sides(rt.alloc(), &job, &CUBES_ASKED));
     Ok(())
 }
 

@@ -24,7 +24,8 @@ pub fn spots_round_outwards()
     ensures below_zero { spots (pos 1_000) (pos 1) (at (negsuc 1_499) (pos 500) ∷ [])
         ≡ spot (negsuc 2) (negsuc 0) ∷ spot (pos 0) (negsuc 0) ∷ spot (negsuc 2) (pos 2) ∷
         spot (pos 0) (pos 2) ∷ [] }
-    ensures of_a_crossing { spots (pos 1_000) (pos 1) (record { x = pos 30_000_000; y = pos 0; d = pos 15_000 } ∷ [])
+    ensures of_a_crossing { spots (pos 1_000) (pos 1)
+        (record { x = pos 30_000_000; y = pos 0; d = pos 15_000 } ∷ [])
         ≡ spot (pos 1) (negsuc 0) ∷ spot (pos 3) (negsuc 0) ∷ spot (pos 1) (pos 1) ∷
         spot (pos 3) (pos 1) ∷ [] }
 {}
@@ -34,7 +35,8 @@ pub fn spots_round_outwards()
 /// at (5/2 mm, 2 mm), and one after a third of its way, at (2 mm, 6 mm).
 pub fn a_slanted_facet_off_the_origin()
     ensures bands { band_count (slanted ∷ []) (pos 10_000) ≡ 2 }
-    ensures flat { band_count (record { a = slanted.a; b = slanted.a; c = slanted.a } ∷ []) (pos 10_000) ≡ 1 }
+    ensures flat { band_count (record { a = slanted.a; b = slanted.a; c = slanted.a } ∷ [])
+        (pos 10_000) ≡ 1 }
     ensures upper { corner_points (slanted ∷ []) (pos 10_000) 1
         ≡ at (pos 4_000) (pos 2_000) ∷
         record { x = pos 50_000_000; y = pos 40_000_000; d = pos 20_000 } ∷

@@ -12,6 +12,8 @@ ghost use Rattle.examples_model.specs.Jobs.{two_cubes};
 pub fn certificates_where_no_cube_fits()
     ensures one_bound { IsCertificate two_cubes 21 (tree_of (bound 0 1 1 0 ∷ [])) }
     ensures pending { IsCertificate two_cubes 100 (tree_of (Nodes.Pending ∷ [])) → ⊥ }
-    ensures refutes { TreeRefutes two_cubes 21 (tree_of (Nodes.Order 0 1 ∷ bound 0 1 1 0 ∷ bound 0 1 1 0 ∷ [])) }
-    ensures without_cause { IsCertificate two_cubes 21 (tree_of (Nodes.Order 0 1 ∷ bound 0 1 1 0 ∷ bound 0 1 1 0 ∷ [])) → ⊥ }
+    ensures refutes { TreeRefutes two_cubes 21
+        (tree_of (Nodes.Order 0 1 ∷ bound 0 1 1 0 ∷ bound 0 1 1 0 ∷ [])) }
+    ensures without_cause { IsCertificate two_cubes 21
+        (tree_of (Nodes.Order 0 1 ∷ bound 0 1 1 0 ∷ bound 0 1 1 0 ∷ [])) → ⊥ }
 {}

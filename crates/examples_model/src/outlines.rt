@@ -14,8 +14,12 @@ pub fn middle_and_edge_of_a_square()
 
 /// Regions of a plate of 100 by 100 with a grid of 100.
 pub fn regions_of_four_extents()
-    ensures at_22 { region_of (pos 100) (pos 100) 100 22 ≡ record { low = spot (pos 39) (pos 39); w = pos 22; h = pos 22 } }
-    ensures at_46 { region_of (pos 100) (pos 100) 100 46 ≡ record { low = spot (pos 27) (pos 27); w = pos 46; h = pos 46 } }
-    ensures at_67 { region_of (pos 100) (pos 100) 100 67 ≡ record { low = spot (pos 16) (pos 16); w = pos 67; h = pos 67 } }
-    ensures at_100 { region_of (pos 100) (pos 100) 100 100 ≡ record { low = spot (pos 0) (pos 0); w = pos 100; h = pos 100 } }
+    ensures at_22 { region_of (pos 100) (pos 100) 100 22
+        ≡ record { low = spot (pos 39) (pos 39); w = pos 22; h = pos 22 } }
+    ensures at_46 { region_of (pos 100) (pos 100) 100 46
+        ≡ record { low = spot (pos 27) (pos 27); w = pos 46; h = pos 46 } }
+    ensures at_67 { region_of (pos 100) (pos 100) 100 67
+        ≡ record { low = spot (pos 16) (pos 16); w = pos 67; h = pos 67 } }
+    ensures at_100 { region_of (pos 100) (pos 100) 100 100
+        ≡ record { low = spot (pos 0) (pos 0); w = pos 100; h = pos 100 } }
 {}

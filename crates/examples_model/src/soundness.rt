@@ -14,7 +14,12 @@ pub fn parts_without_the_tip()
 
 /// A zone's outline has area: two corners are too few.
 pub fn a_zone_without_area()
-    ensures { IsSoundZone (record { corners = spot (pos 0) (pos 0) ∷ spot (pos 2) (pos 0) ∷ []; first = 0; last = 0 }) → ⊥ }
+    ensures { IsSoundZone (record {
+      corners = spot (pos 0) (pos 0) ∷ spot (pos 2) (pos 0) ∷ [];
+      first = 0;
+      last = 0;
+    })
+        → ⊥ }
 {}
 
 /// An object has no contact with itself.

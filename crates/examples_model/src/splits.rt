@@ -16,8 +16,10 @@ ghost use Rattle.examples_model.specs.Rows.{path_to_the_east};
 /// Extent 46 has room for two cubes beside each other: with u = (0, 0) and (24, 0) they stand at (28, 28) and (52, 28), and that is a
 /// valid plan.
 pub fn two_cubes_fit_46()
-    ensures first { place_of two_cubes 46 (pos 1) (pos 0 ∷ pos 0 ∷ pos 24 ∷ pos 0 ∷ []) 0 ≡ at (pos 28) (pos 28) }
-    ensures second { place_of two_cubes 46 (pos 1) (pos 0 ∷ pos 0 ∷ pos 24 ∷ pos 0 ∷ []) 1 ≡ at (pos 52) (pos 28) }
+    ensures first { place_of two_cubes 46 (pos 1) (pos 0 ∷ pos 0 ∷ pos 24 ∷ pos 0 ∷ []) 0
+        ≡ at (pos 28) (pos 28) }
+    ensures second { place_of two_cubes 46 (pos 1) (pos 0 ∷ pos 0 ∷ pos 24 ∷ pos 0 ∷ []) 1
+        ≡ at (pos 52) (pos 28) }
     ensures valid { Valid (scene_of_job two_cubes) 46 beside_each_other }
 {}
 
@@ -38,8 +40,10 @@ pub fn a_plan_by_its_order()
 /// A spent tree has at least as many nodes as its budget, and fewer than the budget and the greatest number of sides
 /// together: of two cubes at most three more.
 pub fn a_tree_is_spent_by_its_length()
-    ensures three_over { SpentTree two_cubes 100 0 (tree_of (Nodes.Order 0 1 ∷ Nodes.Pending ∷ Nodes.Pending ∷ [])) }
-    ensures four_over { (nodes : List Node) → length nodes ≡ 4 → SpentTree two_cubes 100 0 (tree_of nodes) → ⊥ }
+    ensures three_over { SpentTree two_cubes 100 0
+        (tree_of (Nodes.Order 0 1 ∷ Nodes.Pending ∷ Nodes.Pending ∷ [])) }
+    ensures four_over { (nodes : List Node) → length nodes ≡ 4
+        → SpentTree two_cubes 100 0 (tree_of nodes) → ⊥ }
     ensures one_under { SpentTree two_cubes 100 2 (tree_of (Nodes.Pending ∷ [])) → ⊥ }
 {}
 
@@ -61,14 +65,16 @@ pub fn splits_without_a_cause()
 /// isn't open. One object has nothing to split at the empty path.
 pub fn nothing_to_split()
     ensures no_room { CouldSplit two_cubes 21 [] → ⊥ }
-    ensures not_open { OpenTree two_cubes 21 (tree_of (Nodes.Order 0 1 ∷ Nodes.Pending ∷ Nodes.Pending ∷ [])) → ⊥ }
+    ensures not_open { OpenTree two_cubes 21
+        (tree_of (Nodes.Order 0 1 ∷ Nodes.Pending ∷ Nodes.Pending ∷ [])) → ⊥ }
     ensures one_object { CouldSplit cube_on_a_narrow_plate 100 [] → ⊥ }
 {}
 
 /// The order of two cubes is earned only where they collide both ways: no two of them stand side by side in a cycle of forced orders.
 pub fn an_order_of_two_is_earned_both_ways()
     ensures { (e : ℕ) → Earned two_cubes e [] (Nodes.Order 0 1)
-        → Somewhere two_cubes e [] (λ at. CollidesAt two_cubes e at 0 1 × CollidesAt two_cubes e at 1 0) }
+        → Somewhere two_cubes e []
+        (λ at. CollidesAt two_cubes e at 0 1 × CollidesAt two_cubes e at 1 0) }
 {}
 
 /// The tree that refutes extent 45 for two cubes, with its first bound left pending, isn't spent: at the path of that leaf no point is left,
@@ -79,5 +85,6 @@ pub fn a_leaf_without_a_point_is_not_spent()
 
 /// A note of a wide basis names a pending node: node 2 of the tree that refutes extent 45 is closed.
 pub fn a_note_names_a_pending_node()
-    ensures { IsWideNote two_cubes 45 (tree (bound 2 1 4 1)) (record { node = 2; basis = 0 ∷ []; row = 0 }) → ⊥ }
+    ensures { IsWideNote two_cubes 45 (tree (bound 2 1 4 1))
+        (record { node = 2; basis = 0 ∷ []; row = 0 }) → ⊥ }
 {}

@@ -13,17 +13,20 @@ pub fn two_cubes_at_45()
     ensures rows { system two_cubes 45 path_to_the_east ≡ rows_at_45 }
     ensures contradicts { Contradiction rows_at_45 (times 2 1 4 1) }
     ensures without_row_2 { Contradiction rows_at_45 (times 2 0 4 1) → ⊥ }
-    ensures no_row_5 { Contradiction rows_at_45 (record { row = 5; times = pos 1 } ∷ times 2 1 4 1) → ⊥ }
+    ensures no_row_5 { Contradiction rows_at_45 (record { row = 5; times = pos 1 } ∷ times 2 1 4 1)
+        → ⊥ }
 {}
 
 /// At extent 46 the point (0, 0, 24, 0) meets the system of two cubes, of which the later one stands to the east, without room to spare in x.
 pub fn a_point_that_meets_a_system()
-    ensures { MeetsRows (system two_cubes 46 path_to_the_east) (pos 2) (pos 0 ∷ pos 0 ∷ pos 48 ∷ pos 0 ∷ []) }
+    ensures { MeetsRows (system two_cubes 46 path_to_the_east) (pos 2)
+        (pos 0 ∷ pos 0 ∷ pos 48 ∷ pos 0 ∷ []) }
 {}
 
 /// The bounds of one cube at extent 46 of a plate of 100 by 50, whose region is 46 by 23: 24 in x and 1 in y.
 pub fn bounds_on_a_narrow_plate()
-    ensures { system cube_on_a_narrow_plate 46 [] ≡ row (pos 24) (negsuc 0 ∷ pos 0 ∷ []) ∷ row (pos 1) (pos 0 ∷ negsuc 0 ∷ []) ∷ [] }
+    ensures { system cube_on_a_narrow_plate 46 []
+        ≡ row (pos 24) (negsuc 0 ∷ pos 0 ∷ []) ∷ row (pos 1) (pos 0 ∷ negsuc 0 ∷ []) ∷ [] }
 {}
 
 /// No contact of two cubes has more than four sides, and one has four. So their number of nodes is 64, and no other.

@@ -15,23 +15,29 @@ ghost use Rattle.examples_model.specs.Uneven.{uneven, uneven_rows, slope, slope_
 /// greatest value 169, the brick stands where `9 * (-1 + 3) + 5 * (-2 + 1) - 169 + 9 u_0x + 5 u_0y - 9 u_1x - 5 u_1y >= 0`; and it
 /// stands to the west of the walls where `-(-1 + 3) - 13 - u_0x + u_1x >= 0`.
 pub fn system_of_a_brick_and_a_house()
-    ensures region { region_of (pos 100) (pos 60) 100 46 ≡ record { low = spot (pos 27) (pos 16); w = pos 46; h = pos 27 } }
+    ensures region { region_of (pos 100) (pos 60) 100 46
+        ≡ record { low = spot (pos 27) (pos 16); w = pos 46; h = pos 27 } }
     ensures rows { system uneven 46 slope_then_west ≡ uneven_rows }
 {}
 
 /// At u = (3/2, 2) and (30, 31/2) the low corners of the two are so far from the region's. So the places are (63/2, 19) and (58, 67/2):
 /// 27 + 3 and 16 + 1 more for the brick, 27 + 1 and 16 + 2 more for the house.
 pub fn places_of_a_brick_and_a_house()
-    ensures brick { place_of uneven 46 (pos 2) (pos 3 ∷ pos 4 ∷ pos 60 ∷ pos 31 ∷ []) 0 ≡ half (pos 63) (pos 38) }
-    ensures house { place_of uneven 46 (pos 2) (pos 3 ∷ pos 4 ∷ pos 60 ∷ pos 31 ∷ []) 1 ≡ half (pos 116) (pos 67) }
+    ensures brick { place_of uneven 46 (pos 2) (pos 3 ∷ pos 4 ∷ pos 60 ∷ pos 31 ∷ []) 0
+        ≡ half (pos 63) (pos 38) }
+    ensures house { place_of uneven 46 (pos 2) (pos 3 ∷ pos 4 ∷ pos 60 ∷ pos 31 ∷ []) 1
+        ≡ half (pos 116) (pos 67) }
 {}
 
-/// The first five points of the difference of the roof, the brick and the shoe: (2, 1) less (-3, -1) less each corner of the shoe, and then (2, 1) less (7, -1)
-/// less the first. Its greatest values along five directions are those of the roof, less the least ones of the brick and of the shoe.
+/// The first five points of the difference of the roof, the brick and the shoe: (2, 1) less (-3, -1) less each corner of the shoe,
+/// and then (2, 1) less (7, -1) less the first. Its greatest values along five directions are those of the roof, less the least
+/// ones of the brick and of the shoe.
 pub fn points_of_a_roof_a_brick_and_a_shoe()
     ensures points { take 5 (points_of uneven roof_by_the_shoe)
-        ≡ spot (pos 6) (pos 5) ∷ spot (pos 0) (pos 5) ∷ spot (pos 0) (pos 0) ∷ spot (pos 6) (pos 0) ∷ spot (negsuc 3) (pos 5) ∷ [] }
-    ensures greatest { map (λ dir. greatest_along dir (points_of uneven roof_by_the_shoe)) (slope ∷ east ∷ north ∷ west ∷ south ∷ [])
+        ≡ spot (pos 6) (pos 5) ∷ spot (pos 0) (pos 5) ∷ spot (pos 0) (pos 0)
+        ∷ spot (pos 6) (pos 0) ∷ spot (negsuc 3) (pos 5) ∷ [] }
+    ensures greatest { map (λ dir. greatest_along dir (points_of uneven roof_by_the_shoe))
+        (slope ∷ east ∷ north ∷ west ∷ south ∷ [])
         ≡ pos 169 ∷ pos 16 ∷ pos 14 ∷ pos 10 ∷ pos 5 ∷ [] }
 {}
 

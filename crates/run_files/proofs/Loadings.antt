@@ -16,7 +16,7 @@ use Rattle.run_files.specs.Files.{HasNamedPlan, IsMeshFile, IsOnlyPlan, IsPrinte
 use Rattle.run_files.specs.Jobs.{IsLoaded, IsObjectFor}
 use Rattle.run_files.specs.Loading.{IsFitted, Loading, NextPlan, last_before, last_of_head}
 use Rattle.run_files.specs.Notes.{AreNotesFor, AreNotesOf, IsMeshNote, IsNoteFor}
-use Rattle.run_files.specs.Stops.{Explains, IsDue, NextRead, ReadUpTo, WantsMemory, before_meshes, last_of, more, unfit_stop}
+use Rattle.run_files.specs.Stops.{Explains, IsNextFile, NextRead, ReadUpTo, WantsMemory, before_meshes, last_of, more, unfit_stop}
 use Rattle.run_files.specs.Words.{IsRequest, is_strict}
 use Rattle.run_files.specs.declared.plans.GivenPlan.{GivenPlan}
 use Rattle.run_files.specs.declared.stop.NamedFile.TheVariants.{Printer, Plan, Mesh}
@@ -85,7 +85,7 @@ before_mesh a printer plan k s s1 objects notes l there = record {
   each = l.each;
 }
 
-pub mesh_due : (a : Asked) (printer : Machine) (plan : Option GivenPlan) (k : ℕ) (s s1 : ShelfView) (objects : List Object) (notes : List ℕ) → Loading a printer plan k s s1 objects notes → k < length a.meshes → IsDue a (Mesh k) s s1
+pub mesh_due : (a : Asked) (printer : Machine) (plan : Option GivenPlan) (k : ℕ) (s s1 : ShelfView) (objects : List Object) (notes : List ℕ) → Loading a printer plan k s s1 objects notes → k < length a.meshes → IsNextFile a (Mesh k) s s1
 mesh_due a printer plan k s s1 objects notes l there = record {
   files = l.files;
   before = before_mesh a printer plan k s s1 objects notes l there;
@@ -151,7 +151,7 @@ unkept_mesh a printer plan k s s1 s' objects notes l there next =
     inr (record { file = Mesh k; before = due.before; read = read_due a (Mesh k) s s1 s' due next })
 
 -- ---- before the first mesh
-pub plan_due : (a : Asked) (printer : Machine) (s s1 : ShelfView) → s1.files ≡ s.files → IsPrinterOf s.files a.printer printer → NextRead a.printer s s1 → IsSome a.plan → IsDue a Plan s s1
+pub plan_due : (a : Asked) (printer : Machine) (s s1 : ShelfView) → s1.files ≡ s.files → IsPrinterOf s.files a.printer printer → NextRead a.printer s s1 → IsSome a.plan → IsNextFile a Plan s s1
 plan_due a printer s s1 files p r named = record {
   files = files;
   before = record { named = named; description = p.description; printer = p.is };

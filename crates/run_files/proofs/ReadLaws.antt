@@ -9,7 +9,7 @@ use Rattle.seq_io.specs.declared.shelf.ReadAll.TheVariants as Unread
 use Rattle.seq_model.specs.declared.mesh.Facet.{Facet}
 use Rattle.run_files.specs.Causes.{IsRefusedMesh, IsRefusedPlan, IsUnfitFor, IsUnstated, Reaches, Refuses, StatesNone}
 use Rattle.run_files.specs.Files.{IsMeshFile, limit_of, name_in, plan_limit}
-use Rattle.run_files.specs.Stops.{Explains, IsDue, IsUnread, IsUntouched, NextRead, ReadUpTo, WantsMemory, stop_of, unfit_stop}
+use Rattle.run_files.specs.Stops.{Explains, IsNextFile, IsUnread, IsUntouched, NextRead, ReadUpTo, WantsMemory, stop_of, unfit_stop}
 use Rattle.run_files.specs.declared.stop.Cause.{Cause}
 use Rattle.run_files.specs.declared.stop.Cause.TheVariants as Causes
 use Rattle.run_files.specs.declared.stop.NamedFile.{NamedFile}
@@ -21,11 +21,11 @@ use Rattle.run_files.specs.declared.words.Asked.{Asked}
 use Rattle.run_files.specs.declared.words.Task.{Task}
 
 -- the first file is due from the start
-pub printer_due : (a : Asked) (s : ShelfView) → IsDue a Printer s s
+pub printer_due : (a : Asked) (s : ShelfView) → IsNextFile a Printer s s
 printer_due a s = record { files = refl; before = tt; starts = refl; calm = refl; reached = inl (record { named = refl; starts = refl; calm = refl }) }
 
 -- a file that is due and was read
-pub read_due : (a : Asked) (file : NamedFile) (s s1 s' : ShelfView) → IsDue a file s s1 → NextRead (name_in a file) s1 s' → ReadUpTo a file s s'
+pub read_due : (a : Asked) (file : NamedFile) (s s1 s' : ShelfView) → IsNextFile a file s s1 → NextRead (name_in a file) s1 s' → ReadUpTo a file s s'
 read_due a file s s1 s' due next = record {
   started = record { named = next.named; starts = next.starts ∙ ap (raised true) due.starts };
   calm = next.calm ∙ due.calm;
@@ -49,7 +49,7 @@ too_long a Plan files before h = record { before = before; refused = h }
 too_long a (Mesh k) files before h = record { before = before; refused = h }
 
 -- a file that is due and wasn't read
-pub unread : (a : Asked) (file : NamedFile) (s s1 s' : ShelfView) (why : ReadAll) → IsDue a file s s1 → IsUnread (limit_of file) (name_in a file) s1 s' why → Explains a s s' (stop_of file why)
+pub unread : (a : Asked) (file : NamedFile) (s s1 s' : ShelfView) (why : ReadAll) → IsNextFile a file s s1 → IsUnread (limit_of file) (name_in a file) s1 s' why → Explains a s s' (stop_of file why)
 unread a file s s1 s' Unread.ReadFault due x = record {
   before = due.before;
   started = record { named = x.named; starts = x.starts ∙ ap (raised true) due.starts };
@@ -64,7 +64,7 @@ unread a file s s1 s' Unread.NoMemory due (inl u) = still a s s1 s' due.reached 
 unread a file s s1 s' Unread.NoMemory due (inr r) = inr (record { file = file; before = due.before; read = read_due a file s s1 s' due r })
 
 -- memory was wanting once a file was read
-pub unkept : (a : Asked) (file : NamedFile) (s s1 s' : ShelfView) → IsDue a file s s1 → NextRead (name_in a file) s1 s' → Explains a s s' Memory
+pub unkept : (a : Asked) (file : NamedFile) (s s1 s' : ShelfView) → IsNextFile a file s s1 → NextRead (name_in a file) s1 s' → Explains a s s' Memory
 unkept a file s s1 s' due r = inr (record { file = file; before = due.before; read = read_due a file s s1 s' due r })
 
 -- the bytes of a plan that state none refuse their file
@@ -78,7 +78,7 @@ unstated_plan files task name bytes (Causes.NotClosed edges volume) gives short 
 unstated_plan files task name bytes Causes.Flat gives short u = absurd u.cause
 unstated_plan files task name bytes (Causes.TooTall bands) gives short u = absurd u.cause
 
-pub unstated : (a : Asked) (s s1 s' : ShelfView) (bytes : List ℕ) (why : Unfit) → IsDue a Plan s s1 → NextRead (name_in a Plan) s1 s' → GivesFile s1.files (name_in a Plan) bytes → length bytes ≤ plan_limit → IsUnstated a.task bytes why
+pub unstated : (a : Asked) (s s1 s' : ShelfView) (bytes : List ℕ) (why : Unfit) → IsNextFile a Plan s s1 → NextRead (name_in a Plan) s1 s' → GivesFile s1.files (name_in a Plan) bytes → length bytes ≤ plan_limit → IsUnstated a.task bytes why
     → Explains a s s' (unfit_stop Plan why)
 unstated a s s1 s' bytes (Because c) due next gives short u = record {
   refused = record { before = due.before; refused = unstated_plan s.files a.task (name_in a Plan) bytes c (subst (λ fs. GivesFile fs (name_in a Plan) bytes) due.files gives) short u };

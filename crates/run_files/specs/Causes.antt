@@ -8,7 +8,7 @@
 --                                     refused for this cause
 --   IsPlanCause task bytes c          reading the bytes refuses a plan, or its block, for this cause
 --   StatesNone task bytes c           they state no plan, for this cause
---   IsNoPlan files task name c        the bytes of the file are within the limit, and state no plan for this cause
+--   IsNoPlanFile files task name c    the bytes of the file are within the limit, and state no plan for this cause
 --   IsRefusedPlan files task name c   the plan's file is refused for this cause
 --   IsNoStl files name e              the bytes of the file are within the limit, and no mesh for this cause
 --   IsNotClosed strict facets e v     a strict run, and the mesh has e open edges and v for six times its volume
@@ -99,7 +99,7 @@ pub record StatesNone (task : Task) (bytes : List ℕ) (c : Cause) : Type 0 wher
   pub cause : IsPlanCause task bytes c
   pub none : (plan : GivenPlan) → IsStatedBy task bytes plan → ⊥
 
-pub record IsNoPlan (files : Option (List MemFile)) (task : Task) (name : List ℕ) (c : Cause) : Type 0 where
+pub record IsNoPlanFile (files : Option (List MemFile)) (task : Task) (name : List ℕ) (c : Cause) : Type 0 where
   pub bytes : List ℕ
   pub gives : GivesFile files name bytes
   pub short : length bytes ≤ plan_limit
@@ -108,8 +108,8 @@ pub record IsNoPlan (files : Option (List MemFile)) (task : Task) (name : List �
 abbrev pub IsRefusedPlan : Option (List MemFile) → Task → List ℕ → Cause → Type 0
 IsRefusedPlan files task name Causes.TooLong = LongerThan plan_limit files name
 IsRefusedPlan files task name (Causes.Printer e) = ⊥
-IsRefusedPlan files task name (Causes.Plan e) = IsNoPlan files task name (Causes.Plan e)
-IsRefusedPlan files task name (Causes.Block e) = IsNoPlan files task name (Causes.Block e)
+IsRefusedPlan files task name (Causes.Plan e) = IsNoPlanFile files task name (Causes.Plan e)
+IsRefusedPlan files task name (Causes.Block e) = IsNoPlanFile files task name (Causes.Block e)
 IsRefusedPlan files task name (Causes.Stl e) = ⊥
 IsRefusedPlan files task name (Causes.NotClosed edges volume) = ⊥
 IsRefusedPlan files task name Causes.Flat = ⊥

@@ -1,6 +1,6 @@
 -- What the bytes of a plan's file state, and what a task reads of them.
 --
---   is_claim s                the state claims what a check can show: that an extent is the least, or that there is no plan
+--   can_be_checked s          the state claims what a check can show: that an extent is the least, or that there is no plan
 --   reads_block task file     the task reads the tree block behind the plan's lines: a check does, where a claim has one
 --   IsBlockOf due rest block  where it is due, the rest of the bytes is the text of this certificate; else no block is taken
 --   IsStatedBy task bytes plan   the bytes begin with the lines of the plan's file, with the block behind them where the task reads it;
@@ -19,20 +19,20 @@ use Rattle.run_files.specs.declared.plans.GivenPlan.{GivenPlan}
 use Rattle.run_files.specs.declared.words.Task.{Task}
 use Rattle.run_files.specs.declared.words.Task.TheVariants as Tasks
 
-abbrev pub is_claim : State → Bool
-is_claim States.Found = false
-is_claim States.Least = true
-is_claim States.OpenBudget = false
-is_claim States.OpenWide = false
-is_claim States.NoPlan = true
-is_claim States.UndecidedBudget = false
-is_claim States.UndecidedWide = false
+abbrev pub can_be_checked : State → Bool
+can_be_checked States.Found = false
+can_be_checked States.Least = true
+can_be_checked States.OpenBudget = false
+can_be_checked States.OpenWide = false
+can_be_checked States.NoPlan = true
+can_be_checked States.UndecidedBudget = false
+can_be_checked States.UndecidedWide = false
 
 abbrev pub reads_block : Task → PlanFile → Bool
 reads_block (Tasks.Arrange strict budget) file = false
 reads_block (Tasks.Least strict budget) file = false
 reads_block Tasks.Audit file = false
-reads_block Tasks.Check file = is_claim file.state && is_block_due file.state file.extent
+reads_block Tasks.Check file = can_be_checked file.state && is_block_due file.state file.extent
 reads_block Tasks.Slices file = false
 
 abbrev pub IsBlockOf : Bool → List ℕ → Option (Head × Tree) → Type 0

@@ -11,7 +11,7 @@
 --   RefusedAt a file c s s'     this file is refused for this cause; nothing was started after it, and no call failed
 --   WantsMemory a s s'          memory was wanting before the first file or at one of them, and no call failed
 --   Explains a s s' stop        what a stop says of the files and of the shelf
---   IsDue a file s s'           the files before this one were read and can be used: it comes next
+--   IsNextFile a file s s'      the files before this one were read and can be used: it comes next
 --   NextRead name s s'          from s on the file of this name was started, alone, and no call failed
 --   NextFails name s s'         it was started, alone, and then one call failed, the last
 --   IsUnread limit name s s' e  why it wasn't read
@@ -89,7 +89,7 @@ Explains a s s' (Read file) = FailedAt a file s s'
 Explains a s s' (Input file c) = RefusedAt a file c s s'
 Explains a s s' Memory = WantsMemory a s s'
 
-pub record IsDue (a : Asked) (file : NamedFile) (s s' : ShelfView) : Type 0 where
+pub record IsNextFile (a : Asked) (file : NamedFile) (s s' : ShelfView) : Type 0 where
   pub files : s'.files ≡ s.files
   pub before : Reaches s.files a file
   pub starts : s'.starts ≡ more (place_of a file) s.starts

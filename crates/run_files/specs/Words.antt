@@ -9,7 +9,7 @@
 --   Tries words P       they are accepted, and ask for a trial, of which it is so
 --   IsRequest a         there are 1 to 16 meshes, and one alone to slice; a plan is named for an audit and a check alone; a budget is
 --                       1 to 1,000,000
---   IsDue r             what is asked of files is so; a trial has 1 to 16 objects, and a seed below 2^32
+--   IsSoundRequest r    what is asked of files is so; a trial has 1 to 16 objects, and a seed below 2^32
 use Rattle.std.specs.Prelude.{◌≡◌, ◌≤◌, ◌<◌, ◌^◌, ℕ, List, [], ◌∷◌, length, Bool, true, false, Option, Some, None, IsSome, Result, Ok, Err}
 use Rattle.seq_words.specs.Asked.{asked}
 use Rattle.seq_words.specs.declared.command.Command.{Command}
@@ -88,6 +88,6 @@ pub record IsRequest (a : Asked) : Type 0 where
   pub many : IsManyFor a.task (length a.meshes)
   pub budget : IsBudgetFor a.task
 
-abbrev pub IsDue : Request → Type 0
-IsDue (OfFiles a) = IsRequest a
-IsDue (Trial objects seed) = (1 ≤ objects) × (objects ≤ 16) × (seed < 2 ^ 32)
+abbrev pub IsSoundRequest : Request → Type 0
+IsSoundRequest (OfFiles a) = IsRequest a
+IsSoundRequest (Trial objects seed) = (1 ≤ objects) × (objects ≤ 16) × (seed < 2 ^ 32)

@@ -1,7 +1,7 @@
 ghost use Rattle.std.specs.Prelude.{◌≡◌, IfOk, IfErr, OnOk};
 ghost use Rattle.seq_io.specs.Views.{ShelfView};
 ghost use Rattle.run_files.specs.Files.{IsMeshFile, IsPrinterOf, name_in};
-ghost use Rattle.run_files.specs.Stops.{Explains, IsDue, NextRead};
+ghost use Rattle.run_files.specs.Stops.{Explains, IsNextFile, NextRead};
 ghost use Rattle.run_files.specs.declared.stop.NamedFile.{NamedFile};
 
 use crate::reading::read_file;
@@ -44,7 +44,7 @@ pub fn load_mesh<S: Shelf>(
     ensures read { OnOk result (NextRead (name_in asked.now (NamedFile.Mesh number))
         (S.shows shelf.old) (S.shows shelf.new)) }
     ensures files { (S.shows shelf.new).files ≡ (S.shows shelf.old).files }
-    ensures why { (s : ShelfView) → IsDue asked.now (NamedFile.Mesh number) s (S.shows shelf.old)
+    ensures why { (s : ShelfView) → IsNextFile asked.now (NamedFile.Mesh number) s (S.shows shelf.old)
         → IfErr result (Explains asked.now s (S.shows shelf.new)) }
 {
     let bytes = match read_file(alloc, asked, NamedFile::Mesh(number), shelf) {

@@ -7,8 +7,8 @@ ghost use Rattle.seq_io.specs.declared.mem_file.MemFile.{MemFile};
 ghost use Rattle.run_files.specs.Causes.{IsUnstated};
 ghost use Rattle.run_files.specs.Files.{HasNamedPlan, IsOnlyPlan, StatesPlan, name_in};
 ghost use Rattle.run_files.specs.Loading.{NextPlan};
-ghost use Rattle.run_files.specs.Plans.{IsBlockOf, IsOnlyBy, IsStatedBy, is_claim, reads_block};
-ghost use Rattle.run_files.specs.Stops.{Explains, IsDue, NextRead};
+ghost use Rattle.run_files.specs.Plans.{IsBlockOf, IsOnlyBy, IsStatedBy, can_be_checked, reads_block};
+ghost use Rattle.run_files.specs.Stops.{Explains, IsNextFile, NextRead};
 ghost use Rattle.run_files.specs.declared.plans.GivenPlan.{GivenPlan};
 ghost use Rattle.run_files.specs.declared.stop.NamedFile.{NamedFile};
 
@@ -28,8 +28,8 @@ pub struct GivenPlan {
     pub block: Option<(Head, Tree)>,
 }
 
-fn is_claim(state: State) -> bool
-    ensures { result ≡ is_claim state }
+fn can_be_checked(state: State) -> bool
+    ensures { result ≡ can_be_checked state }
 {
     match state {
         State::Least | State::NoPlan => true,
@@ -45,7 +45,7 @@ fn reads_block(task: Task, file: &PlanFile) -> bool
     ensures { result ≡ reads_block task file.now }
 {
     match task {
-        Task::Check => is_claim(file.state) && file.is_block_due(),
+        Task::Check => can_be_checked(file.state) && file.is_block_due(),
         Task::Arrange { .. } | Task::Least { .. } | Task::Audit | Task::Slices => false,
     }
 }
@@ -98,7 +98,7 @@ fn load_named_plan<S: Shelf>(alloc: Global, asked: &Asked, shelf: &mut S) -> Res
     ensures read { OnOk result (NextRead (name_in asked.now NamedFile.Plan)
         (S.shows shelf.old) (S.shows shelf.new)) }
     ensures files { (S.shows shelf.new).files ≡ (S.shows shelf.old).files }
-    ensures why { (s : ShelfView) → IsDue asked.now NamedFile.Plan s (S.shows shelf.old)
+    ensures why { (s : ShelfView) → IsNextFile asked.now NamedFile.Plan s (S.shows shelf.old)
         → IfErr result (Explains asked.now s (S.shows shelf.new)) }
 {
     let bytes = match read_file(alloc, asked, NamedFile::Plan, shelf) {
@@ -123,7 +123,7 @@ pub fn load_plan<S: Shelf>(
     ensures read { OnOk result (NextPlan asked.now.plan (S.shows shelf.old) (S.shows shelf.new)) }
     ensures files { (S.shows shelf.new).files ≡ (S.shows shelf.old).files }
     ensures why { (s : ShelfView)
-        → (IsSome asked.now.plan → IsDue asked.now NamedFile.Plan s (S.shows shelf.old))
+        → (IsSome asked.now.plan → IsNextFile asked.now NamedFile.Plan s (S.shows shelf.old))
         → IfErr result (Explains asked.now s (S.shows shelf.new)) }
 {
     if asked.plan.is_none() {

@@ -3,7 +3,7 @@ ghost use Rattle.seq_words.specs.declared.command.Command.{Command};
 ghost use Rattle.seq_words.specs.Usages.{texts};
 ghost use Rattle.seq_words.specs.declared.command.Words.{Words};
 ghost use Rattle.run_files.specs.Files.{name_in, name_or};
-ghost use Rattle.run_files.specs.Words.{IsDue, arranging, request_by, request_of, requested};
+ghost use Rattle.run_files.specs.Words.{IsSoundRequest, arranging, request_by, request_of, requested};
 
 use crate::NamedFile;
 use owned_lists::{Items, Text};
@@ -122,7 +122,7 @@ fn request_of(alloc: Global, command: Command) -> Result<Request, Words>
 /// What the words ask for.
 pub fn read_request(alloc: Global, words: &[String]) -> Result<Request, Words>
     ensures asked { IfOk result (λ r. requested (texts words.now) ≡ Ok r) }
-    ensures is { IfOk result IsDue }
+    ensures is { IfOk result IsSoundRequest }
     ensures refused { IfErr result (λ why.
         (why ≡ Words.NoMemory) ⊎ (requested (texts words.now) ≡ Err why)) }
 {

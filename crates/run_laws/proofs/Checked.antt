@@ -26,7 +26,7 @@ use Rattle.seq_model.specs.declared.job.Job.{Job}
 use Rattle.seq_model.specs.declared.plan.Plan.{Plan}
 use Rattle.seq_model.specs.declared.tree.Tree.{Tree}
 use Rattle.seq_run.specs.Arranged.{PassesCheck, PrintsLeast, PrintsNone}
-use Rattle.seq_run.specs.Premises.{HasNoFault}
+use Rattle.seq_run.specs.Premises.{HasFaultlessPlan}
 use Rattle.seq_run.specs.Printed.{Answers, Prints}
 use Rattle.seq_run.specs.declared.status.Verdict.{Verdict}
 use Rattle.seq_run.specs.declared.status.Verdict.TheVariants as Verdicts
@@ -120,7 +120,7 @@ module _ (before after : List MemFile) (strict : Bool) (step : ℤ) where
       (same_mesh n m (All-head (λ k. bytes_of after k ≡ bytes_of before k) n ns same) z.0, same_meshes ns ms (All-tail (λ k. bytes_of after k ≡ bytes_of before k) n ns same) z.1)
 
 pub checked : (before after : List MemFile) (a : Asked) (verdict : Verdict) (notes text name : List ℕ) → Answers (Some before) a verdict notes text → IsClaimed a.task verdict
-    → IsSaved before after a text name → HasNoFault (Some after) (check_of a name)
+    → IsSaved before after a text name → HasFaultlessPlan (Some after) (check_of a name)
 checked before after a verdict notes text name x is saved = record {
   inputs = record { description = x.inputs.description; plan = Some given; meshes = x.inputs.meshes };
   usable = record {

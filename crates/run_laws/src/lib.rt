@@ -11,7 +11,7 @@ ghost use Rattle.std.specs.Prelude.{ℕ, List, Some};
 ghost use Rattle.run_files.specs.declared.words.Asked.{Asked};
 ghost use Rattle.run_laws.specs.Checking.{IsClaimed, IsSaved, check_of};
 ghost use Rattle.seq_io.specs.declared.mem_file.MemFile.{MemFile};
-ghost use Rattle.seq_run.specs.Premises.{HasNoFault};
+ghost use Rattle.seq_run.specs.Premises.{HasFaultlessPlan};
 ghost use Rattle.seq_run.specs.Printed.{Answers};
 ghost use Rattle.seq_run.specs.declared.status.Verdict.{Verdict};
 
@@ -20,5 +20,5 @@ pub fn what_is_arranged_passes_check()
     ensures { (before after : List MemFile) (a : Asked) (verdict : Verdict)
         (notes text name : List ℕ)
         → Answers (Some before) a verdict notes text → IsClaimed a.task verdict
-        → IsSaved before after a text name → HasNoFault (Some after) (check_of a name) }
+        → IsSaved before after a text name → HasFaultlessPlan (Some after) (check_of a name) }
 {}

@@ -24,7 +24,7 @@ use Rattle.seq_model.specs.declared.plan.Place.{Place}
 use Rattle.seq_model.specs.declared.plan.Plan.{Plan}
 use Rattle.seq_model.specs.declared.printer.Part.{Part}
 use Rattle.seq_run.specs.Planning.{CanWorkOn, HasPlanFor, PrintsFor, verdict_of_audit}
-use Rattle.seq_run.specs.Judged.{PrintsFault, PrintsGood, scene_of}
+use Rattle.seq_run.specs.Judged.{PrintsPlanFault, PrintsGood, scene_of}
 use Rattle.seq_run.specs.Printed.{Answers}
 use Rattle.seq_run.specs.declared.status.Verdict.{Verdict}
 use Rattle.seq_run.proofs.Audited.{same_verdict}
@@ -64,7 +64,7 @@ module _ (job : Job) (given : GivenPlan) (v : Audit) (text : List ℕ) (is_verdi
   written : text ≡ audit_text inputs.description.parts given.file.plan.places v
   written = is ∙ text_kept inputs.description.parts job.printer.parts j.printer.parts given.file.plan.places v
 
-  pub faulty : (Valid (scene_of_job job) job.printer.grid given.file.plan → ⊥) → PrintsFault inputs text
+  pub faulty : (Valid (scene_of_job job) job.printer.grid given.file.plan → ⊥) → PrintsPlanFault inputs text
   faulty bad = record {
     plan = given;
     named = named;

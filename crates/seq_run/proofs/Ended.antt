@@ -6,7 +6,7 @@ use Rattle.seq_io.specs.declared.mem_file.MemFile.{MemFile}
 use Rattle.run_files.specs.Causes.{Refuses}
 use Rattle.run_lines.specs.Messages.{line_of}
 use Rattle.seq_run.specs.Printed.{Answers}
-use Rattle.seq_run.specs.Premises.{AsksTrial, HasEnough, HasFault, HasNoFault, HasNoPlan, IsUnusable, IsUsable}
+use Rattle.seq_run.specs.Premises.{AsksTrial, HasEnough, HasFaultyPlan, HasFaultlessPlan, HasNoPlan, IsUnusable, IsUsable}
 use Rattle.seq_run.specs.Runs.{AskedEnds, Ends, IsAnswered, IsTried, TrialEnds}
 use Rattle.seq_run.specs.Statuses.{IsOneOf, code_of, status_of}
 use Rattle.run_files.specs.Stops.{Explains, IsUntouched, WantsMemory}
@@ -87,10 +87,10 @@ usable files a n = record { inputs = n.inputs; usable = n.usable }
 sufficient : (files : Option (List MemFile)) (a : Asked) → HasEnough files a → IsUsable files a
 sufficient files a n = record { inputs = n.inputs; usable = n.usable }
 
-faultless : (files : Option (List MemFile)) (a : Asked) → HasNoFault files a → IsUsable files a
+faultless : (files : Option (List MemFile)) (a : Asked) → HasFaultlessPlan files a → IsUsable files a
 faultless files a n = record { inputs = n.inputs; usable = n.usable }
 
-faulty : (files : Option (List MemFile)) (a : Asked) → HasFault files a → IsUsable files a
+faulty : (files : Option (List MemFile)) (a : Asked) → HasFaultyPlan files a → IsUsable files a
 faulty files a n = record { inputs = n.inputs; usable = n.usable }
 
 abbrev fine : Request → Result Request Words
@@ -171,11 +171,11 @@ module _ (words : List (List ℕ)) (s s' : ShelfView) (e e' o o' : SinkView) whe
   decided_always WriteFault x files told n = inr (inr (inr (inl refl)))
   decided_always NoMemory x files told n = inr (inr (inr (inr refl)))
 
-  searched_bad : (v : Verdict) → IsSearched v → E (Answered v) → (files : List MemFile) → s.files ≡ Some files → Asks words (HasFault (Some files)) → ⊥
-  searched_bad v is x files told n = (let y = of_files v (HasFault (Some files)) x n in searched_faulty files y.asked v y.so.notes y.so.text (here (HasFault (Some files)) v y n) is (answers_told v files told y))
+  searched_bad : (v : Verdict) → IsSearched v → E (Answered v) → (files : List MemFile) → s.files ≡ Some files → Asks words (HasFaultyPlan (Some files)) → ⊥
+  searched_bad v is x files told n = (let y = of_files v (HasFaultyPlan (Some files)) x n in searched_faulty files y.asked v y.so.notes y.so.text (here (HasFaultyPlan (Some files)) v y n) is (answers_told v files told y))
 
-  pub fault_always : (status : Status) → E status → (files : List MemFile) → s.files ≡ Some files → Asks words (HasFault (Some files)) → IsOneOf (3 ∷ 7 ∷ 8 ∷ 9 ∷ []) (code_of status)
-  fault_always (Answered Done) x files told n = (let y = of_files Done (HasFault (Some files)) x n in absurd (done_faulty files y.asked y.so.notes y.so.text (here (HasFault (Some files)) Done y n) (answers_told Done files told y)))
+  pub fault_always : (status : Status) → E status → (files : List MemFile) → s.files ≡ Some files → Asks words (HasFaultyPlan (Some files)) → IsOneOf (3 ∷ 7 ∷ 8 ∷ 9 ∷ []) (code_of status)
+  fault_always (Answered Done) x files told n = (let y = of_files Done (HasFaultyPlan (Some files)) x n in absurd (done_faulty files y.asked y.so.notes y.so.text (here (HasFaultyPlan (Some files)) Done y n) (answers_told Done files told y)))
   fault_always (Answered NoPlan) x files told n = absurd (searched_bad NoPlan tt x files told n)
   fault_always (Answered Open) x files told n = absurd (searched_bad Open tt x files told n)
   fault_always (Answered Undecided) x files told n = absurd (searched_bad Undecided tt x files told n)
@@ -186,15 +186,15 @@ module _ (words : List (List ℕ)) (s s' : ShelfView) (e e' o o' : SinkView) whe
   fault_always WriteFault x files told n = inr (inr (inl refl))
   fault_always NoMemory x files told n = inr (inr (inr refl))
 
-  searched_good : (v : Verdict) → IsSearched v → E (Answered v) → (files : List MemFile) → s.files ≡ Some files → Asks words (HasNoFault (Some files)) → ⊥
-  searched_good v is x files told n = (let y = of_files v (HasNoFault (Some files)) x n in searched_faultless files y.asked v y.so.notes y.so.text (here (HasNoFault (Some files)) v y n) is (answers_told v files told y))
+  searched_good : (v : Verdict) → IsSearched v → E (Answered v) → (files : List MemFile) → s.files ≡ Some files → Asks words (HasFaultlessPlan (Some files)) → ⊥
+  searched_good v is x files told n = (let y = of_files v (HasFaultlessPlan (Some files)) x n in searched_faultless files y.asked v y.so.notes y.so.text (here (HasFaultlessPlan (Some files)) v y n) is (answers_told v files told y))
 
-  pub good_always : (status : Status) → E status → (files : List MemFile) → s.files ≡ Some files → Asks words (HasNoFault (Some files)) → IsOneOf (0 ∷ 3 ∷ 8 ∷ 9 ∷ []) (code_of status)
+  pub good_always : (status : Status) → E status → (files : List MemFile) → s.files ≡ Some files → Asks words (HasFaultlessPlan (Some files)) → IsOneOf (0 ∷ 3 ∷ 8 ∷ 9 ∷ []) (code_of status)
   good_always (Answered Done) x files told n = inl refl
   good_always (Answered NoPlan) x files told n = absurd (searched_good NoPlan tt x files told n)
   good_always (Answered Open) x files told n = absurd (searched_good Open tt x files told n)
   good_always (Answered Undecided) x files told n = absurd (searched_good Undecided tt x files told n)
-  good_always (Answered Fault) x files told n = (let y = of_files Fault (HasNoFault (Some files)) x n in absurd (fault_faultless files y.asked y.so.notes y.so.text (here (HasNoFault (Some files)) Fault y n) (answers_told Fault files told y)))
+  good_always (Answered Fault) x files told n = (let y = of_files Fault (HasFaultlessPlan (Some files)) x n in absurd (fault_faultless files y.asked y.so.notes y.so.text (here (HasFaultlessPlan (Some files)) Fault y n) (answers_told Fault files told y)))
   good_always WrongWords x files told n = absurd (accepted-refused (requested words) (OfFiles n.asked) x.0.why n.accepted x.0.refused)
   good_always ReadFault x files told n = inr (inl refl)
   good_always WrongFile x files told n = absurd (not_refused files told x (record { asked = n.asked; accepted = n.accepted; so = faultless (Some files) n.asked n.so }))

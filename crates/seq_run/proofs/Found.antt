@@ -6,8 +6,8 @@
 --   searched_faulty, done_faulty           what is faulty isn't answered otherwise
 --   searched_faultless, fault_faultless    nor is what is faultless
 use Rattle.std.proofs.Common.{◌≡◌, ◌≤◌, ◌<◌, ◌-◌, ℕ, List, Some, ◌⊎◌, inl, inr, refl, sym, ap, ◌∙◌, subst, arith}
-use Rattle.claim_checker.specs.declared.verdict.Claim.{Claim}
-use Rattle.claim_checker.specs.declared.verdict.Claim.TheVariants as Claims
+use Rattle.claim_checker.specs.declared.verdict.Judgement.{Judgement}
+use Rattle.claim_checker.specs.declared.verdict.Judgement.TheVariants as Judgements
 use Rattle.model_laws.specs.Laws.OnePath.{stands_at_path}
 use Rattle.plate_shrink.specs.Outcomes.{IsBudgetCause, IsCause}
 use Rattle.plate_shrink.specs.declared.outcome.Cause.{Cause}
@@ -28,7 +28,7 @@ use Rattle.seq_model.specs.declared.plan.Plan.{Plan}
 use Rattle.seq_model.specs.declared.tree.Tree.{Tree}
 use Rattle.seq_model.specs.declared.tree.WideNote.{WideNote}
 use Rattle.seq_run.specs.Judged.{IsGoodPlan, IsJudgedAs, scene_of}
-use Rattle.seq_run.specs.Premises.{Arranges, HasEnough, HasFault, HasNoFault, HasNoPlan, IsEnough, IsEnoughFor, IsFaultless, IsFaulty}
+use Rattle.seq_run.specs.Premises.{Arranges, HasEnough, HasFaultyPlan, HasFaultlessPlan, HasNoPlan, IsEnough, IsEnoughFor, IsFaultless, IsFaulty}
 use Rattle.seq_run.specs.Printed.{Answers, Prints, PrintsUndecided}
 use Rattle.seq_run.specs.declared.status.Verdict.{Verdict}
 use Rattle.seq_run.specs.declared.status.Verdict.TheVariants.{Done, Fault, NoPlan, Open, Undecided}
@@ -55,8 +55,8 @@ one_plan x y s p q e f = inside p q (sym e ∙ s.plan ∙ f)
     inside : (p q : GivenPlan) → Some p ≡ Some q → p ≡ q
     inside p q e = cc
 
-judged_same : (x y : Inputs) → SameInputs x y → (claim : Claim) → IsJudgedAs x claim → IsJudgedAs y claim
-judged_same x y s claim o = record { plan = o.plan; named = sym s.plan ∙ o.named; job = o.job; is_job = job_same x y s o.job o.is_job; is = o.is }
+judged_same : (x y : Inputs) → SameInputs x y → (judgement : Judgement) → IsJudgedAs x judgement → IsJudgedAs y judgement
+judged_same x y s judgement o = record { plan = o.plan; named = sym s.plan ∙ o.named; job = o.job; is_job = job_same x y s o.job o.is_job; is = o.is }
 
 -- ---- no plan is valid
 module _ (files : List MemFile) (a : Asked) (notes text : List ℕ) (n : HasNoPlan (Some files) a) where
@@ -192,13 +192,13 @@ not_searched Tasks.Check inputs Open text g s p = p
 not_searched Tasks.Check inputs Undecided text g s p = p
 not_searched Tasks.Check inputs Fault text g s p = s
 
-pub searched_faulty : (files : List MemFile) (a : Asked) (v : Verdict) (notes text : List ℕ) → HasFault (Some files) a → IsSearched v → Answers (Some files) a v notes text → ⊥
+pub searched_faulty : (files : List MemFile) (a : Asked) (v : Verdict) (notes text : List ℕ) → HasFaultyPlan (Some files) a → IsSearched v → Answers (Some files) a v notes text → ⊥
 searched_faulty files a v notes text n s x = not_searched a.task x.inputs v text (faulty_given a.task n.inputs n.faulty) s x.prints
 
-pub searched_faultless : (files : List MemFile) (a : Asked) (v : Verdict) (notes text : List ℕ) → HasNoFault (Some files) a → IsSearched v → Answers (Some files) a v notes text → ⊥
+pub searched_faultless : (files : List MemFile) (a : Asked) (v : Verdict) (notes text : List ℕ) → HasFaultlessPlan (Some files) a → IsSearched v → Answers (Some files) a v notes text → ⊥
 searched_faultless files a v notes text n s x = not_searched a.task x.inputs v text (faultless_given a.task n.inputs n.faultless) s x.prints
 
-pub done_faulty : (files : List MemFile) (a : Asked) (notes text : List ℕ) → HasFault (Some files) a → Answers (Some files) a Done notes text → ⊥
+pub done_faulty : (files : List MemFile) (a : Asked) (notes text : List ℕ) → HasFaultyPlan (Some files) a → Answers (Some files) a Done notes text → ⊥
 done_faulty files a notes text n x = by a.task n.faulty x.prints
   where
     same : SameInputs x.inputs n.inputs
@@ -211,10 +211,10 @@ done_faulty files a notes text n x = by a.task n.faulty x.prints
     by (Tasks.Arrange strict budget) f p = f
     by (Tasks.Least strict budget) f p = f
     by Tasks.Audit f p = f.bad (subst (IsGoodPlan n.inputs) (one_plan x.inputs n.inputs same p.plan f.plan p.named f.named) (good_same x.inputs n.inputs same p.plan p.good))
-    by Tasks.Check f p = absurd (cc (p.only (Claims.Fails f.0) (judged_same n.inputs x.inputs back (Claims.Fails f.0) f.1)))
+    by Tasks.Check f p = absurd (cc (p.only (Judgements.Fails f.0) (judged_same n.inputs x.inputs back (Judgements.Fails f.0) f.1)))
     by Tasks.Slices f p = f
 
-pub fault_faultless : (files : List MemFile) (a : Asked) (notes text : List ℕ) → HasNoFault (Some files) a → Answers (Some files) a Fault notes text → ⊥
+pub fault_faultless : (files : List MemFile) (a : Asked) (notes text : List ℕ) → HasFaultlessPlan (Some files) a → Answers (Some files) a Fault notes text → ⊥
 fault_faultless files a notes text n x = by a.task n.faultless x.prints
   where
     back : SameInputs n.inputs x.inputs
@@ -224,5 +224,5 @@ fault_faultless files a notes text n x = by a.task n.faultless x.prints
     by (Tasks.Arrange strict budget) f p = f
     by (Tasks.Least strict budget) f p = f
     by Tasks.Audit f p = p.not_good (subst (IsGoodPlan x.inputs) (one_plan n.inputs x.inputs back f.plan p.plan f.named p.named) (good_same n.inputs x.inputs back f.plan f.good))
-    by Tasks.Check f p = absurd (cc (p.only (Claims.Passes f.0) (judged_same n.inputs x.inputs back (Claims.Passes f.0) f.1)))
+    by Tasks.Check f p = absurd (cc (p.only (Judgements.Passes f.0) (judged_same n.inputs x.inputs back (Judgements.Passes f.0) f.1)))
     by Tasks.Slices f p = f

@@ -8,8 +8,8 @@
 --   PrintsSpent d ms b text    the text says that the budget was spent, with a tree that shows it
 --   PrintsWide d ms text       the text says that numbers grown too wide left it undecided, with a tree and a note that show it
 use Rattle.std.specs.Prelude.{◌≡◌, ◌<◌, ◌-◌, ℕ, List, Option}
-use Rattle.claim_checker.specs.Claims.{IsClaim}
-use Rattle.claim_checker.specs.declared.verdict.Claim.TheVariants.{Passes}
+use Rattle.claim_checker.specs.Claims.{IsJudgement}
+use Rattle.claim_checker.specs.declared.verdict.Judgement.TheVariants.{Passes}
 use Rattle.decision_text.specs.DecisionText.{decision_text, file_of, outcome_text, statement_for, statement_of}
 use Rattle.decision_text.specs.declared.statement.Statement.{Statement}
 use Rattle.node_looks.specs.Looks.{HasZeroPlan}
@@ -29,7 +29,7 @@ use Rattle.seq_model.specs.declared.tree.Tree.{Tree}
 use Rattle.seq_model.specs.declared.tree.WideNote.{WideNote}
 
 abbrev pub PassesCheck : Job → Statement → ℕ → Type 0
-PassesCheck job s x = IsClaim job s.file s.block (Passes x)
+PassesCheck job s x = IsJudgement job s.file s.block (Passes x)
 
 -- the plan has all objects at the zero point wherever such a plan is valid
 pub record PrintsPlan (d : Description) (meshes : List NamedMesh) (text : List ℕ) : Type 0 where

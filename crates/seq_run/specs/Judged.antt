@@ -3,16 +3,16 @@
 --   scene_of inputs              the scene that the files describe
 --   IsGoodPlan inputs plan       the plan is valid on the whole plate, for that scene
 --   PrintsGood inputs text       the plan that is named is good, and the text says so
---   PrintsFault inputs text      it isn't, and the text tells its first fault
---   IsJudgedAs inputs c          the claim of the plan that is named is judged so, by the job of the files
+--   PrintsPlanFault inputs text  it isn't, and the text tells its first fault
+--   IsJudgedAs inputs j          the claim of the plan that is named is judged so, by the job of the files
 --   PrintsPass inputs text       its claim passes, with what this shows of the scene of the files, and the text says so
---   PrintsFailure inputs text    it doesn't, and the text tells what is wrong with it first
+--   PrintsClaimFault inputs text it doesn't, and the text tells what is wrong with it first
 use Rattle.std.specs.Prelude.{◌≡◌, ℕ, List, Some, codes}
 use Rattle.audit_text.specs.AuditText.{audit_text}
 use Rattle.check_text.specs.CheckText.{check_text}
-use Rattle.claim_checker.specs.Claims.{IsClaim, Shows}
-use Rattle.claim_checker.specs.declared.verdict.Claim.{Claim}
-use Rattle.claim_checker.specs.declared.verdict.Claim.TheVariants.{Fails, Passes}
+use Rattle.claim_checker.specs.Claims.{IsJudgement, Shows}
+use Rattle.claim_checker.specs.declared.verdict.Judgement.{Judgement}
+use Rattle.claim_checker.specs.declared.verdict.Judgement.TheVariants.{Fails, Passes}
 use Rattle.claim_checker.specs.declared.verdict.Fault.{Fault}
 use Rattle.plan_audit.specs.Faults.{IsVerdict}
 use Rattle.plan_audit.specs.declared.verdict.Verdict.{Verdict as Audit}
@@ -36,7 +36,7 @@ pub record PrintsGood (inputs : Inputs) (text : List ℕ) : Type 0 where
   pub is : text ≡ codes "audit good\n"
 
 -- what is wrong with the plan first, of the scene of the files
-pub record PrintsFault (inputs : Inputs) (text : List ℕ) : Type 0 where
+pub record PrintsPlanFault (inputs : Inputs) (text : List ℕ) : Type 0 where
   pub plan : GivenPlan
   pub named : inputs.plan ≡ Some plan
   pub not_good : IsGoodPlan inputs plan → ⊥
@@ -45,23 +45,23 @@ pub record PrintsFault (inputs : Inputs) (text : List ℕ) : Type 0 where
   pub is : text ≡ audit_text inputs.description.parts plan.file.plan.places fault
 
 -- ---- check
-pub record IsJudgedAs (inputs : Inputs) (claim : Claim) : Type 0 where
+pub record IsJudgedAs (inputs : Inputs) (judgement : Judgement) : Type 0 where
   pub plan : GivenPlan
   pub named : inputs.plan ≡ Some plan
   pub job : Job
   pub is_job : IsJobOf inputs.description inputs.meshes job
-  pub is : IsClaim job plan.file plan.block claim
+  pub is : IsJudgement job plan.file plan.block judgement
 
 -- no plan is valid at the extent that is told nor below; a least extent is the least one, and has its plan
 pub record PrintsPass (inputs : Inputs) (text : List ℕ) : Type 0 where
   pub excluded : ℕ
   pub judged : IsJudgedAs inputs (Passes excluded)
-  pub only : (other : Claim) → IsJudgedAs inputs other → other ≡ Passes excluded
+  pub only : (other : Judgement) → IsJudgedAs inputs other → other ≡ Passes excluded
   pub shows : Shows (scene_of inputs) judged.plan.file excluded
   pub is : text ≡ check_text (Passes excluded)
 
-pub record PrintsFailure (inputs : Inputs) (text : List ℕ) : Type 0 where
+pub record PrintsClaimFault (inputs : Inputs) (text : List ℕ) : Type 0 where
   pub fault : Fault
   pub judged : IsJudgedAs inputs (Fails fault)
-  pub only : (other : Claim) → IsJudgedAs inputs other → other ≡ Fails fault
+  pub only : (other : Judgement) → IsJudgedAs inputs other → other ≡ Fails fault
   pub is : text ≡ check_text (Fails fault)

@@ -3,11 +3,11 @@
 --   CanWorkOn task job plan          there are as many objects as the task is built for, and the plan that it needs
 --   PrintsFor task job plan v text   the text is one of this verdict, whatever files the job and the plan are of
 --   verdict_of_decision, verdict_of_outcome   the verdict of a search of the whole plate, and of the least extent
---   verdict_of_audit, verdict_of_claim        the verdict of an audit, and of a judgement
+--   verdict_of_audit, verdict_of_judgement    the verdict of an audit, and of a judgement
 use Rattle.std.specs.Prelude.{◌≡◌, ℕ, List, length, Option, Some, None}
 use Rattle.claim_checker.specs.Claims.{HasBlock, excluded_by}
-use Rattle.claim_checker.specs.declared.verdict.Claim.{Claim}
-use Rattle.claim_checker.specs.declared.verdict.Claim.TheVariants as Claims
+use Rattle.claim_checker.specs.declared.verdict.Judgement.{Judgement}
+use Rattle.claim_checker.specs.declared.verdict.Judgement.TheVariants as Judgements
 use Rattle.plan_audit.specs.declared.verdict.Verdict.{Verdict as Audit}
 use Rattle.plan_audit.specs.declared.verdict.Verdict.TheVariants as Audits
 use Rattle.plan_text.specs.PlanText.{IsPlanFile}
@@ -65,6 +65,6 @@ verdict_of_audit (Audits.Absent o) = Verdicts.Fault
 verdict_of_audit (Audits.OffPlate k) = Verdicts.Fault
 verdict_of_audit (Audits.Collides h) = Verdicts.Fault
 
-abbrev pub verdict_of_claim : Claim → Verdict
-verdict_of_claim (Claims.Passes x) = Verdicts.Done
-verdict_of_claim (Claims.Fails fault) = Verdicts.Fault
+abbrev pub verdict_of_judgement : Judgement → Verdict
+verdict_of_judgement (Judgements.Passes x) = Verdicts.Done
+verdict_of_judgement (Judgements.Fails fault) = Verdicts.Fault

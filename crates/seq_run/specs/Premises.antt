@@ -10,9 +10,9 @@
 --   HasEnough files a         the files can be used, and the budget is enough for their job
 --   IsFaulty task inputs      the plan of an audit isn't valid, the claim of a check doesn't pass
 --   IsFaultless task inputs   it is, and it does
---   HasFault, HasNoFault      the files can be used, and so it is of them
+--   HasFaultyPlan, HasFaultlessPlan   the files can be used, and so it is of the plan that is given
 use Rattle.std.specs.Prelude.{◌≡◌, ◌≤◌, ℕ, List, Option, Some}
-use Rattle.claim_checker.specs.declared.verdict.Claim.TheVariants.{Fails, Passes}
+use Rattle.claim_checker.specs.declared.verdict.Judgement.TheVariants.{Fails, Passes}
 use Rattle.claim_checker.specs.declared.verdict.Fault.{Fault}
 use Rattle.refinement_loop.specs.Decisions.{HasNoWideWalk}
 use Rattle.run_files.specs.Files.{AreUsable, Inputs}
@@ -99,12 +99,12 @@ IsFaultless Tasks.Audit inputs = HasGoodPlan inputs
 IsFaultless Tasks.Check inputs = (x : ℕ) × IsJudgedAs inputs (Passes x)
 IsFaultless Tasks.Slices inputs = ⊥
 
-pub record HasFault (files : Option (List MemFile)) (a : Asked) : Type 0 where
+pub record HasFaultyPlan (files : Option (List MemFile)) (a : Asked) : Type 0 where
   pub inputs : Inputs
   pub usable : AreUsable files a inputs
   pub faulty : IsFaulty a.task inputs
 
-pub record HasNoFault (files : Option (List MemFile)) (a : Asked) : Type 0 where
+pub record HasFaultlessPlan (files : Option (List MemFile)) (a : Asked) : Type 0 where
   pub inputs : Inputs
   pub usable : AreUsable files a inputs
   pub faultless : IsFaultless a.task inputs

@@ -20,7 +20,7 @@ use Rattle.seq_model.specs.declared.job.Job.{Job}
 use Rattle.seq_model.specs.declared.job.Object.{Object}
 use Rattle.seq_model.specs.declared.printer.Printer.{Printer}
 use Rattle.seq_run.specs.Arranged.{PrintsLeast, PrintsNone, PrintsOpen, PrintsPlan, PrintsSpent, PrintsWide}
-use Rattle.seq_run.specs.Judged.{PrintsFailure, PrintsFault, PrintsGood, PrintsPass}
+use Rattle.seq_run.specs.Judged.{PrintsClaimFault, PrintsGood, PrintsPass, PrintsPlanFault}
 use Rattle.seq_run.specs.declared.status.Verdict.{Verdict}
 use Rattle.seq_run.specs.declared.status.Verdict.TheVariants as Verdicts
 use Rattle.slice_text.specs.SlicesText.{slices_text}
@@ -58,12 +58,12 @@ Prints Tasks.Audit inputs Verdicts.Done text = PrintsGood inputs text
 Prints Tasks.Audit inputs Verdicts.NoPlan text = ⊥
 Prints Tasks.Audit inputs Verdicts.Open text = ⊥
 Prints Tasks.Audit inputs Verdicts.Undecided text = ⊥
-Prints Tasks.Audit inputs Verdicts.Fault text = PrintsFault inputs text
+Prints Tasks.Audit inputs Verdicts.Fault text = PrintsPlanFault inputs text
 Prints Tasks.Check inputs Verdicts.Done text = PrintsPass inputs text
 Prints Tasks.Check inputs Verdicts.NoPlan text = ⊥
 Prints Tasks.Check inputs Verdicts.Open text = ⊥
 Prints Tasks.Check inputs Verdicts.Undecided text = ⊥
-Prints Tasks.Check inputs Verdicts.Fault text = PrintsFailure inputs text
+Prints Tasks.Check inputs Verdicts.Fault text = PrintsClaimFault inputs text
 Prints Tasks.Slices inputs Verdicts.Done text = PrintsSlices inputs.description inputs.meshes text
 Prints Tasks.Slices inputs Verdicts.NoPlan text = ⊥
 Prints Tasks.Slices inputs Verdicts.Open text = ⊥

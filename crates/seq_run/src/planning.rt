@@ -2,13 +2,13 @@ ghost use Rattle.std.specs.Prelude.{◌≡◌, ◌≤◌, ◌<◌, ◌^◌, Opti
 ghost use Rattle.plan_text.specs.PlanText.{IsPlanFile};
 ghost use Rattle.run_files.specs.declared.plans.GivenPlan.{GivenPlan};
 ghost use Rattle.run_files.specs.declared.words.Task.{Task};
-ghost use Rattle.seq_run.specs.Planning.{CanBeJudged, CanWorkOn, PrintsFor, verdict_of_audit, verdict_of_claim, verdict_of_decision, verdict_of_outcome};
+ghost use Rattle.seq_run.specs.Planning.{CanBeJudged, CanWorkOn, PrintsFor, verdict_of_audit, verdict_of_judgement, verdict_of_decision, verdict_of_outcome};
 ghost use Rattle.seq_run.specs.Tried.{PrintsTrial};
 
 use crate::Verdict;
 use audit_text::audit_text;
 use check_text::check_text;
-use claim_checker::{Claim, claim};
+use claim_checker::{Judgement, judge};
 use decision_text::{decision_text, outcome_text};
 use owned_lists::Items;
 use plan_audit::{Verdict as Audit, audit};
@@ -124,12 +124,12 @@ fn audit_plan(alloc: Global, job: &Job, plan: &GivenPlan) -> Result<Printed, NoM
     })
 }
 
-fn verdict_of_claim(claim: Claim) -> Verdict
-    ensures { result ≡ verdict_of_claim claim }
+fn verdict_of_judgement(judgement: Judgement) -> Verdict
+    ensures { result ≡ verdict_of_judgement judgement }
 {
-    match claim {
-        Claim::Passes(_) => Verdict::Done,
-        Claim::Fails(_) => Verdict::Fault,
+    match judgement {
+        Judgement::Passes(_) => Verdict::Done,
+        Judgement::Fails(_) => Verdict::Fault,
     }
 }
 
@@ -140,10 +140,10 @@ fn check_plan(alloc: Global, job: &Job, plan: &GivenPlan) -> Result<Printed, NoM
     ensures { IfOk result (λ p. PrintsFor Task.Check job.now (Some plan.now) p.verdict p.text) }
 {
     the_job_of_files_is_one();
-    let judged = claim(alloc, job, &plan.file, &plan.block)?;
+    let judged = judge(alloc, job, &plan.file, &plan.block)?;
     let text = check_text(alloc, judged)?;
     Ok(Printed {
-        verdict: verdict_of_claim(judged),
+        verdict: verdict_of_judgement(judged),
         text: Items::from_vec(text),
     })
 }

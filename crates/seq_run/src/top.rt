@@ -3,7 +3,7 @@ ghost use Rattle.run_files.specs.Stops.{Explains, ReadUpTo, last_of};
 ghost use Rattle.run_files.specs.Words.{Asks, IsRequest, requested};
 ghost use Rattle.seq_io.specs.declared.mem_file.MemFile.{MemFile};
 ghost use Rattle.seq_run.specs.Planning.{CanWorkOn, PrintsFor};
-ghost use Rattle.seq_run.specs.Premises.{AsksTrial, HasEnough, HasFault, HasNoFault, HasNoPlan, IsUnusable, IsUsable};
+ghost use Rattle.seq_run.specs.Premises.{AsksTrial, HasEnough, HasFaultyPlan, HasFaultlessPlan, HasNoPlan, IsUnusable, IsUsable};
 ghost use Rattle.seq_run.specs.Printed.{Answers};
 ghost use Rattle.seq_run.specs.Runs.{AskedEnds, Ends, HasAnswered, IsMisworded, IsUnreadFile, IsUnwritten, IsWanting, IsWrongFile, RefusalEnds, TrialEnds};
 ghost use Rattle.seq_run.specs.Statuses.{IsOneOf};
@@ -153,7 +153,7 @@ pub fn run<S: Shelf, O: Sink, E: Sink>(
         (S.shows shelf.old) (S.shows shelf.new)
         (E.shows err.old) (E.shows err.new) (O.shows out.old) (O.shows out.new) }
     ensures good_always { (files : List MemFile) → (S.shows shelf.old).files ≡ Some files
-        → Asks (texts words.now.items) (HasNoFault (Some files))
+        → Asks (texts words.now.items) (HasFaultlessPlan (Some files))
         → IsOneOf (0 ∷ 3 ∷ 8 ∷ 9 ∷ []) result }
 
     // 1: only where no plan is valid; `err` took the notes, and then `out` the text that says so, with a certificate that passes.
@@ -184,7 +184,7 @@ pub fn run<S: Shelf, O: Sink, E: Sink>(
         (S.shows shelf.old) (S.shows shelf.new)
         (E.shows err.old) (E.shows err.new) (O.shows out.old) (O.shows out.new) }
     ensures fault_always { (files : List MemFile) → (S.shows shelf.old).files ≡ Some files
-        → Asks (texts words.now.items) (HasFault (Some files))
+        → Asks (texts words.now.items) (HasFaultyPlan (Some files))
         → IsOneOf (3 ∷ 7 ∷ 8 ∷ 9 ∷ []) result }
 
     // a trial is of files that are made: none is read, and none of them can be refused.

@@ -20,7 +20,7 @@ use Rattle.seq_model.specs.declared.printer.Printer.{Printer}
 use Rattle.std.specs.List.{AllZip}
 use Rattle.stl_text.specs.Laws.Meshes.{one_mesh, refused_no_mesh}
 use Rattle.stl_text.specs.Meshes.{MeshOf}
-use Rattle.run_files.specs.Causes.{IsNoPlan, IsRefusedMesh, IsRefusedPlan, IsUnfitFile, Refuses}
+use Rattle.run_files.specs.Causes.{IsNoPlanFile, IsRefusedMesh, IsRefusedPlan, IsUnfitFile, Refuses}
 use Rattle.run_files.specs.Files.{AreUsable, HasNamedPlan, Inputs, IsOnlyPlan, IsMeshFile, IsPrinterFile, IsUsableMesh, NamedMesh, StatesPlan, facets_of, mesh_limit, name_or, plan_limit, printer_limit}
 use Rattle.run_files.specs.Jobs.{IsObjectFor}
 use Rattle.run_files.specs.Plans.{IsStatedBy}
@@ -88,7 +88,7 @@ chosen R (n ∷ ns) (m ∷ ms) zero z h = record { mesh = m; is = z.0 }
 chosen R (n ∷ ns) (m ∷ ms) (suc k) z h = (let later = chosen R ns ms k z.1 (omega (arith, h)) in record { mesh = later.mesh; is = later.is })
 
 -- a plan that a word names can't be refused where it can be used
-stated_unusable : (files : List MemFile) (task : Task) (name : List ℕ) (plan : GivenPlan) (c : Cause) → StatesPlan (Some files) task name plan → IsNoPlan (Some files) task name c → ⊥
+stated_unusable : (files : List MemFile) (task : Task) (name : List ℕ) (plan : GivenPlan) (c : Cause) → StatesPlan (Some files) task name plan → IsNoPlanFile (Some files) task name c → ⊥
 stated_unusable files task name plan c s r = r.refused.none plan (subst (λ b. IsStatedBy task b plan) (s.gives ∙ sym r.gives) s.is)
 
 plan_unusable : (files : List MemFile) (task : Task) (name : List ℕ) (plan : GivenPlan) (c : Cause) → StatesPlan (Some files) task name plan → IsRefusedPlan (Some files) task name c → ⊥
