@@ -1,112 +1,16 @@
-ghost use Rattle.std.specs.Prelude.{◌≡◌, ◌∷◌, [], pos, length, All, IfOk, IfSome};
-ghost use Rattle.examples_model.specs.Cubes.{cube, nozzle, gantry, object_of};
-ghost use Rattle.examples_model.specs.Jobs.{gantry_part, nozzle_part};
+ghost use Rattle.std.specs.Prelude.{◌≡◌, pos, length, All, IfOk, IfSome};
 ghost use Rattle.outline_laws.specs.Directions.{IsShort};
 ghost use Rattle.plan_audit.specs.Places.{IsRoomy};
 ghost use Rattle.seq_model.specs.Contacts.{IsContact};
-ghost use Rattle.seq_model.specs.Parts.{tip};
 
 use difference_polygon::{SideRow, side_row};
-use owned_lists::{Items, Text};
+use examples_model::jobs::two_cubes;
+use owned_lists::Items;
 use plan_audit::{Hit, Verdict, audit};
 use printer_envelopes::zones_meet;
-use seq_model::{Contact, Dir, Job, Object, Part, Place, Plan, Printer, Spot, Zone};
+use seq_model::{Contact, Dir, Job, Place, Plan};
 use std::alloc::{AllocError, Global};
 use std::test::Fail;
-
-fn rectangle(
-    alloc: Global,
-    west: i64,
-    south: i64,
-    east: i64,
-    north: i64,
-) -> Result<Items<Spot>, AllocError>
-    ensures { IfOk result (λ spots. spots ≡ record { x = west; y = south } ∷ record { x = east; y = south }
-        ∷ record { x = east; y = north } ∷ record { x = west; y = north } ∷ []) }
-{
-    let mut corners = Items::new(alloc);
-    corners.push(Spot { x: west, y: south })?;
-    corners.push(Spot { x: east, y: south })?;
-    corners.push(Spot { x: east, y: north })?;
-    corners.push(Spot { x: west, y: north })?;
-    Ok(corners)
-}
-
-fn cube_object(alloc: Global) -> Result<Object, AllocError>
-    ensures { IfOk result (λ object. object ≡ object_of cube) }
-{
-    let mut zones = Items::new(alloc);
-    zones.push(Zone {
-        corners: rectangle(alloc, -1, -1, 21, 21)?,
-        first: 0,
-        last: 1,
-    })?;
-    Ok(Object {
-        name: Text::from_str(alloc, "")?,
-        height: 20_000,
-        bands: 2,
-        low: Spot { x: -1, y: -1 },
-        high: Spot { x: 21, y: 21 },
-        zones,
-    })
-}
-
-fn part(
-    alloc: Global,
-    name: &str,
-    corners: Items<Spot>,
-    lo: u32,
-    hi: Option<u32>,
-) -> Result<Part, AllocError>
-    ensures { IfOk result (λ part. part ≡ record { name = name.now; corners = corners; lo = lo; hi = hi }) }
-{
-    Ok(Part {
-        name: Text::from_str(alloc, name)?,
-        corners,
-        lo,
-        hi,
-    })
-}
-
-fn parts(alloc: Global) -> Result<Items<Part>, AllocError>
-    ensures { IfOk result (λ parts. parts ≡ tip ∷ nozzle_part ∷ gantry_part ∷ []) }
-{
-    let mut origin = Items::new(alloc);
-    origin.push(Spot { x: 0, y: 0 })?;
-    let mut parts = Items::new(alloc);
-    parts.push(part(alloc, "tip", origin, 0, Some(0))?)?;
-    parts.push(part(alloc, "nozzle", rectangle(alloc, -2, -2, 2, 2)?, 0, None)?)?;
-    parts.push(part(
-        alloc,
-        "gantry",
-        rectangle(alloc, -101, -10, 101, 10)?,
-        2,
-        None,
-    )?)?;
-    Ok(parts)
-}
-
-fn printer(alloc: Global) -> Result<Printer, AllocError> {
-    Ok(Printer {
-        grain: 1_000,
-        width: 100,
-        depth: 100,
-        step: 10_000,
-        margin: 1,
-        grid: 100,
-        parts: parts(alloc)?,
-    })
-}
-
-fn two_cubes(alloc: Global) -> Result<Job, AllocError> {
-    let mut objects = Items::new(alloc);
-    objects.push(cube_object(alloc)?)?;
-    objects.push(cube_object(alloc)?)?;
-    Ok(Job {
-        printer: printer(alloc)?,
-        objects,
-    })
-}
 
 // An object and the numerators of its place.
 type Stands = (u32, i64, i64);

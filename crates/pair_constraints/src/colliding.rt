@@ -24,7 +24,8 @@ fn contact_overlaps(
     requires contact { IsContact job.now contact.now }
     requires places { ArePlaces earlier.now later.now scale }
     ensures { IsTrue result ↔ Overlap (zone_at job.now contact.now.i contact.now.zi).corners
-        (zone_at job.now contact.now.j contact.now.zj).corners (part_at job.now contact.now.part).corners
+        (zone_at job.now contact.now.j contact.now.zj).corners
+        (part_at job.now contact.now.part).corners
         (place_point scale earlier.now) (place_point scale later.now) }
 {
     let a = &job.objects.as_slice()[contact.i as usize].zones.as_slice()[contact.zi as usize];
@@ -96,7 +97,8 @@ fn first_zone(
     requires b { IsSoundZone b.now }
     requires places { ArePlaces earlier.now later.now scale }
     ensures { IsFirst (ZoneHits parts.now zones.now b.now
-        (place_point scale earlier.now) (place_point scale later.now)) (Sooner (λ a b. a < b)) result }
+        (place_point scale earlier.now) (place_point scale later.now))
+        (Sooner (λ a b. a < b)) result }
 {
     for z in 0..zones.len() {
         if let Some(part) = first_part(parts, &zones[z], b, earlier, later, scale) {
@@ -122,7 +124,8 @@ fn first_pair(
     requires few_later { length later_zones.now ≤ 200 }
     requires places { ArePlaces earlier.now later.now scale }
     ensures { IsFirst (PairHits parts.now zones.now later_zones.now
-        (place_point scale earlier.now) (place_point scale later.now)) (Sooner (Sooner (λ a b. a < b))) result }
+        (place_point scale earlier.now) (place_point scale later.now))
+        (Sooner (Sooner (λ a b. a < b))) result }
 {
     for z in 0..later_zones.len() {
         if let Some(rest) = first_zone(parts, zones, &later_zones[z], earlier, later, scale) {
@@ -141,7 +144,8 @@ pub fn next_contact(job: &Job, earlier: &Place, later: &Place, scale: i128) -> O
     requires places { ArePlaces earlier.now later.now scale }
     ensures first { IsFirst (CollidesBetween job.now earlier.now.object later.now.object
         (place_point scale earlier.now) (place_point scale later.now)) ComesBefore result }
-    ensures none { IsNone result ↔ (Collides (scene_of_job job.now) earlier.now.object (place_point scale earlier.now)
+    ensures none { IsNone result
+        ↔ (Collides (scene_of_job job.now) earlier.now.object (place_point scale earlier.now)
         later.now.object (place_point scale later.now) → ⊥) }
 {
     let a = job.objects.as_slice()[earlier.object as usize]

@@ -56,7 +56,8 @@ impl Contacts {
     pub fn of(alloc: Global, job: &Job) -> Result<Contacts, NoMemory>
         ensures kept { IfOk result (AreContacts job.now) }
         ensures enough { IfOk result (λ contacts. AreEnough job.now (kept_contacts contacts)) }
-        ensures maximal { IfOk result (λ contacts. All (IsMaximal job.now) (kept_contacts contacts)) }
+        ensures maximal { IfOk result
+            (λ contacts. All (IsMaximal job.now) (kept_contacts contacts)) }
     {
         let nested = Nested::of(alloc, job)?;
         let rows = rows_of(alloc, job, &nested)?;

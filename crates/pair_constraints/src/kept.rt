@@ -63,7 +63,8 @@ fn limits_of_zones(alloc: Global, a: &Zone, b: &Zone, part: &Part) -> Result<Vec
     requires a { IsSoundZone a.now }
     requires b { IsSoundZone b.now }
     requires part { IsSoundPart part.now }
-    ensures limits { IfOk result (λ limits. AreLimits (difference a.now.corners b.now.corners part.now.corners) limits.items) }
+    ensures limits { IfOk result (λ limits. AreLimits
+        (difference a.now.corners b.now.corners part.now.corners) limits.items) }
     ensures fit { IfOk result (λ limits. All IsFit limits.items) }
 {
     limits_of(
@@ -113,7 +114,8 @@ fn shift_of(job: &Job, contact: &Contact) -> Spot
 /// The sides of a contact, in order, with the greatest values along them.
 pub fn sides_of_contact(alloc: Global, job: &Job, contact: &Contact) -> Result<Vec<Limit>, NoMemory>
     requires contact { IsContact job.now contact.now }
-    ensures limits { IfOk result (λ limits. AreLimits (points_of job.now contact.now) limits.items) }
+    ensures limits { IfOk result
+        (λ limits. AreLimits (points_of job.now contact.now) limits.items) }
     ensures fit { IfOk result (λ limits. All IsFit limits.items) }
 {
     let a = &job.objects.as_slice()[contact.i as usize].zones.as_slice()[contact.zi as usize];

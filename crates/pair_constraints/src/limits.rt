@@ -52,7 +52,8 @@ pub(crate) fn all_below(limits: &[Limit], at: &RatPoint) -> bool
 pub fn is_inside(limits: &[Limit], at: &RatPoint) -> bool
     requires limits { All IsFit limits.now }
     requires at { FitsProducts at.now }
-    ensures { (spots : List Spot) → HasArea spots → AreLimits spots limits.now → IsTrue result ↔ Inner spots at.now }
+    ensures { (spots : List Spot) → HasArea spots → AreLimits spots limits.now
+        → IsTrue result ↔ Inner spots at.now }
 {
     all_below(limits, at)
 }
@@ -78,7 +79,8 @@ fn limits_along(
 ) -> Result<Vec<Limit>, AllocError>
     requires dirs { All IsShort dirs.now }
     requires outlines { AreOutlines a.now b.now f.now }
-    ensures value { IfOk result (λ limits. limits.items ≡ map (limit_of (difference a.now b.now f.now)) dirs.now) }
+    ensures value { IfOk result
+        (λ limits. limits.items ≡ map (limit_of (difference a.now b.now f.now)) dirs.now) }
     ensures fit { IfOk result (λ limits. All IsFit limits.items) }
 {
     let mut limits = Vec::with_capacity(alloc, dirs.len())?;
@@ -123,7 +125,8 @@ pub(crate) fn all_reach_no_farther(limits: &[Limit], a: &[Spot], b: &[Spot], f: 
 pub fn cover(limits: &[Limit], a: &[Spot], b: &[Spot], f: &[Spot]) -> bool
     requires limits { All IsFit limits.now }
     requires outlines { AreOutlines a.now b.now f.now }
-    ensures { (covering : List Spot) → AreLimits covering limits.now → IsTrue result ↔ Covers covering (difference a.now b.now f.now) }
+    ensures { (covering : List Spot) → AreLimits covering limits.now
+        → IsTrue result ↔ Covers covering (difference a.now b.now f.now) }
 {
     all_reach_no_farther(limits, a, b, f)
 }

@@ -29,7 +29,8 @@ fn zones_reach_no_farther(limits: &[Limit], a: &Zone, b: &Zone, part: &Part) -> 
     requires b { IsSoundZone b.now }
     requires part { IsSoundPart part.now }
     requires fit { All IsFit limits.now }
-    ensures { result ≡ list_all (is_short_of (difference a.now.corners b.now.corners part.now.corners)) limits.now }
+    ensures { result ≡ list_all
+        (is_short_of (difference a.now.corners b.now.corners part.now.corners)) limits.now }
 {
     all_reach_no_farther(
         limits,
@@ -61,7 +62,8 @@ fn limits_cover(kept: &Kept, job: &Job, contact: &Contact) -> bool
 fn covers(job: &Job, kept: &Kept, contact: &Contact) -> bool
     requires kept { IsKept job.now kept.now }
     requires contact { IsContact job.now contact.now }
-    ensures { IsTrue result ↔ Covers (points_of job.now kept.now.contact) (points_of job.now contact.now) }
+    ensures { IsTrue result
+        ↔ Covers (points_of job.now kept.now.contact) (points_of job.now contact.now) }
 {
     limits_cover(kept, job, contact)
 }
@@ -87,7 +89,8 @@ fn leave_covered(kept: &mut Vec<Kept>, job: &Job, by: &Kept)
     requires apart { AllPairs (AreApart job.now) kept.old.items }
     ensures kept { All (AreKeptOf job.now by.now.contact.i by.now.contact.j) kept.new.items }
     ensures apart { AllPairs (AreApart job.now) kept.new.items }
-    ensures leaves { Leaves job.now by.now.contact (contacts_of kept.old.items) (contacts_of kept.new.items) }
+    ensures leaves { Leaves job.now by.now.contact
+        (contacts_of kept.old.items) (contacts_of kept.new.items) }
     ensures only { (k : Kept) → In k kept.new.items → In k kept.old.items }
     ensures none { All (IsFree job.now by.now.contact) kept.new.items }
 {
@@ -118,9 +121,11 @@ fn settle_kept(
     requires contact { IsContact job.now contact.now }
     requires kept { All (AreKeptOf job.now contact.now.i contact.now.j) kept.old.items }
     requires apart { AllPairs (AreApart job.now) kept.old.items }
-    ensures kept { OnOk result (All (AreKeptOf job.now contact.now.i contact.now.j) kept.new.items) }
+    ensures kept { OnOk result
+        (All (AreKeptOf job.now contact.now.i contact.now.j) kept.new.items) }
     ensures apart { OnOk result (AllPairs (AreApart job.now) kept.new.items) }
-    ensures settles { OnOk result (Settles job.now (λ c. c ≡ contact.now) (contacts_of kept.old.items) (contacts_of kept.new.items)) }
+    ensures settles { OnOk result (Settles job.now (λ c. c ≡ contact.now)
+        (contacts_of kept.old.items) (contacts_of kept.new.items)) }
 {
     if is_covered(kept, job, contact) {
         return Ok(());
@@ -141,7 +146,8 @@ fn settled_kept(
     requires contacts { All (IsOf job.now i j) contacts.now }
     ensures kept { IfOk result (λ kept. All (AreKeptOf job.now i j) kept.items) }
     ensures apart { IfOk result (λ kept. AllPairs (AreApart job.now) kept.items) }
-    ensures enough { IfOk result (λ kept. All (IsCovered job.now (contacts_of kept.items)) contacts.now) }
+    ensures enough { IfOk result
+        (λ kept. All (IsCovered job.now (contacts_of kept.items)) contacts.now) }
 {
     let mut kept = Vec::new(alloc);
     for contact in contacts {

@@ -162,7 +162,8 @@ impl Nested {
         requires outer { IsContact job.now outer.now }
         requires earlier { outer.now.i ≡ inner.now.i }
         requires later { outer.now.j ≡ inner.now.j }
-        ensures { IsTrue result → Covers (points_of job.now outer.now) (points_of job.now inner.now) }
+        ensures { IsTrue result
+            → Covers (points_of job.now outer.now) (points_of job.now inner.now) }
     {
         are_marked(self, inner, outer)
     }

@@ -43,7 +43,8 @@ fn gap_of(earlier: &Place, later: &Place, scale: i128) -> RatPoint
 fn overlap(a: &[Spot], b: &[Spot], f: &[Spot], earlier: &Place, later: &Place, scale: i128) -> bool
     requires outlines { AreOutlines a.now b.now f.now }
     requires places { ArePlaces earlier.now later.now scale }
-    ensures { IsTrue result ↔ Overlap a.now b.now f.now (place_point scale earlier.now) (place_point scale later.now) }
+    ensures { IsTrue result
+        ↔ Overlap a.now b.now f.now (place_point scale earlier.now) (place_point scale later.now) }
 {
     strictly_in(a, b, f, &gap_of(earlier, later, scale))
 }

@@ -83,8 +83,10 @@ impl Kept {
     pub fn row(&self, job: &Job, side: usize) -> SideRow
         requires kept { IsKept job.now self.now }
         requires side { side < length self.now.limits }
-        ensures row { (e : ℕ) (d : Limit) → Systems.pair_row job.now result.c result.x result.y result.i result.j
-            ≡ Systems.side_row job.now e self.now.contact (slice_index_or self.now.limits side d).dir }
+        ensures row { (e : ℕ) (d : Limit)
+            → Systems.pair_row job.now result.c result.x result.y result.i result.j
+            ≡ Systems.side_row job.now e self.now.contact
+            (slice_index_or self.now.limits side d).dir }
         ensures i { result.i ≡ self.now.contact.i }
         ensures j { result.j ≡ self.now.contact.j }
         ensures size { unsigned_abs result.c < 2 ^ 47 }

@@ -63,7 +63,8 @@ fn settle(
     requires contact { IsContact job.now contact }
     requires kept { All (IsOf job.now contact.i contact.j) kept.old.items }
     ensures kept { OnOk result (All (IsOf job.now contact.i contact.j) kept.new.items) }
-    ensures settles { OnOk result (Settles job.now (λ c. c ≡ contact) kept.old.items kept.new.items) }
+    ensures settles { OnOk result
+        (Settles job.now (λ c. c ≡ contact) kept.old.items kept.new.items) }
 {
     if is_inside_one(kept, job, nested, &contact) {
         return Ok(());
@@ -75,7 +76,8 @@ fn settle(
 
 fn zones_of_contact_meet(job: &Job, contact: &Contact) -> bool
     requires { IsNamed job.now contact.now }
-    ensures { IsTrue result ↔ ZonesMeet (zone_at job.now contact.now.i contact.now.zi) (part_at job.now contact.now.part)
+    ensures { IsTrue result ↔ ZonesMeet
+        (zone_at job.now contact.now.i contact.now.zi) (part_at job.now contact.now.part)
         (zone_at job.now contact.now.j contact.now.zj) }
 {
     let a = &job.objects.as_slice()[contact.i as usize].zones.as_slice()[contact.zi as usize];
@@ -103,7 +105,8 @@ fn settle_if(
     requires contact { IsNamed job.now contact }
     requires kept { All (IsOf job.now contact.i contact.j) kept.old.items }
     ensures kept { OnOk result (All (IsOf job.now contact.i contact.j) kept.new.items) }
-    ensures settles { OnOk result (Settles job.now (IsThe job.now contact) kept.old.items kept.new.items) }
+    ensures settles { OnOk result
+        (Settles job.now (IsThe job.now contact) kept.old.items kept.new.items) }
 {
     if !is_contact(job, &contact) {
         return Ok(());
@@ -141,7 +144,8 @@ fn settle_parts(
     requires later_zone { zj < length (zones_of job.now j) }
     requires kept { All (IsOf job.now i j) kept.old.items }
     ensures kept { OnOk result (All (IsOf job.now i j) kept.new.items) }
-    ensures settles { OnOk result (Settles job.now (AtZones job.now i zi zj j) kept.old.items kept.new.items) }
+    ensures settles { OnOk result
+        (Settles job.now (AtZones job.now i zi zj j) kept.old.items kept.new.items) }
 {
     for part in 0..part_count(job) {
         settle_if(kept, job, nested, Contact { i, zi, part, zj, j })?;
@@ -164,7 +168,8 @@ fn settle_zones(
     requires later_zone { zj < length (zones_of job.now j) }
     requires kept { All (IsOf job.now i j) kept.old.items }
     ensures kept { OnOk result (All (IsOf job.now i j) kept.new.items) }
-    ensures settles { OnOk result (Settles job.now (AtZone job.now i zj j) kept.old.items kept.new.items) }
+    ensures settles { OnOk result
+        (Settles job.now (AtZone job.now i zj j) kept.old.items kept.new.items) }
 {
     for zi in 0..zone_count(job, i) {
         settle_parts(kept, job, nested, i, zi, zj, j)?;
@@ -185,7 +190,8 @@ pub(crate) fn settled(
     requires later { j < length job.now.objects }
     requires apart { i ≢ j }
     ensures each { IfOk result (λ kept. All (IsOf job.now i j) kept.items) }
-    ensures enough { IfOk result (λ kept. (c : Contact) → IsOf job.now i j c → IsCovered job.now kept.items c) }
+    ensures enough { IfOk result
+        (λ kept. (c : Contact) → IsOf job.now i j c → IsCovered job.now kept.items c) }
 {
     let mut kept = Vec::new(alloc);
     for zj in 0..zone_count(job, j) {

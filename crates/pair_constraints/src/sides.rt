@@ -63,7 +63,8 @@ impl KeptSides {
         requires new { tree.get contact_cmp self.old.known contact.now ≡ None }
         ensures kept { AreKeptSides job.now self.new }
         ensures keeps { OnOk result (kept_sides self.new contact.now ≡ Some sides) }
-        ensures stay { (c : Contact) → IfSome (kept_sides self.old c) (λ sides. kept_sides self.new c ≡ Some sides) }
+        ensures stay { (c : Contact)
+            → IfSome (kept_sides self.old c) (λ sides. kept_sides self.new c ≡ Some sides) }
     {
         self.known.insert(*contact, sides)?;
         Ok(())
@@ -81,7 +82,8 @@ impl KeptSides {
         ensures kept { AreKeptSides job.now self.new }
         ensures sides { IfOk result (AreSides (points_of job.now contact.now)) }
         ensures keeps { IfOk result (λ sides. kept_sides self.new contact.now ≡ Some sides) }
-        ensures stay { (c : Contact) → IfSome (kept_sides self.old c) (λ sides. kept_sides self.new c ≡ Some sides) }
+        ensures stay { (c : Contact)
+            → IfSome (kept_sides self.old c) (λ sides. kept_sides self.new c ≡ Some sides) }
     {
         if let Some(known) = self.known.get(contact) {
             return Ok(known.copy(alloc)?);

@@ -273,7 +273,8 @@ impl Kept {
         requires kept { IsKept job.now self.now }
         requires at { IsSolvedPoint at.now }
         requires many { length at.now.nums.now ≡ 2 * length job.now.objects }
-        ensures { (e : ℕ) → IsTrue result ↔ ContactCollidesAt job.now e (values_of at.now) self.now.contact }
+        ensures { (e : ℕ)
+            → IsTrue result ↔ ContactCollidesAt job.now e (values_of at.now) self.now.contact }
     {
         meets(job, self, at)
     }

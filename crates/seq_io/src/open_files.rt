@@ -35,7 +35,8 @@ impl OpenFiles {
     /// Opens the first file of that name, if there is one, and says whether there is.
     pub fn open(&mut self, name: &str) -> bool
         ensures found { result ≡ has_file self.old.files name.now }
-        ensures state { self.new ≡ record { files = self.old.files; rest = bytes_of self.old.files name.now } }
+        ensures state { self.new
+            ≡ record { files = self.old.files; rest = bytes_of self.old.files name.now } }
     {
         self.at = place_of(&self.files, name);
         self.given = 0;
@@ -53,7 +54,8 @@ impl OpenFiles {
     pub fn give(&mut self, to: &mut [u8], most: usize) -> usize
         ensures count { result ≡ min (min (length self.old.rest) (length to.old)) most }
         ensures bytes { take result to.new ≡ take result self.old.rest }
-        ensures state { self.new ≡ record { files = self.old.files; rest = drop result self.old.rest } }
+        ensures state { self.new
+            ≡ record { files = self.old.files; rest = drop result self.old.rest } }
     {
         let count = copy_front(left_of(&self.files, self.at, self.given), to, most);
         self.given += count;

@@ -27,7 +27,8 @@ pub trait Shelf {
     /// Begins the first file of that name. Where none has it, nothing is left to read.
     fn start(&mut self, name: String) -> Result<(), Failed>
         ensures files { (shows self.new).files ≡ (shows self.old).files }
-        ensures started { StartsFile (shows self.old).files (string_bytes name) (shows self.new).rest result }
+        ensures started { StartsFile (shows self.old).files (string_bytes name)
+            (shows self.new).rest result }
         ensures named { (shows self.new).named ≡ Some (string_bytes name) }
         ensures starts { (shows self.new).starts ≡ raised true (shows self.old).starts }
         ensures broken { (shows self.new).broken ≡ is_err result }
@@ -57,13 +58,16 @@ pub fn read_all<S: Shelf>(
     name: String,
     limit: usize,
 ) -> Result<Vec<u8>, ReadAll>
-    ensures bytes { IfOk result (λ v. GivesFile (S.shows shelf.old).files (string_bytes name) v.items) }
+    ensures bytes { IfOk result
+        (λ v. GivesFile (S.shows shelf.old).files (string_bytes name) v.items) }
     ensures within { IfOk result (λ v. vec_len v ≤ limit) }
-    ensures too_long { result ≡ Err ReadAll.TooLong → LongerThan limit (S.shows shelf.old).files (string_bytes name) }
+    ensures too_long { result ≡ Err ReadAll.TooLong
+        → LongerThan limit (S.shows shelf.old).files (string_bytes name) }
 
     // One failed call of the shelf is answered as a fault, and nothing else is; no other call failed.
     ensures broken { IsTrue (S.shows shelf.new).broken ↔ (result ≡ Err ReadAll.ReadFault) }
-    ensures count { Counted (S.shows shelf.new).broken (S.shows shelf.old).faults (S.shows shelf.new).faults }
+    ensures count { Counted (S.shows shelf.new).broken
+        (S.shows shelf.old).faults (S.shows shelf.new).faults }
 
     ensures named { (S.shows shelf.new).named ≡ Some (string_bytes name) }
     ensures starts { (S.shows shelf.new).starts ≡ raised true (S.shows shelf.old).starts }
@@ -101,11 +105,13 @@ fn read_piece<S: Shelf>(
     // What was read stays, and behind it stand the next bytes of the file, none only at its end.
     ensures front { take filled bytes.new.items ≡ take filled bytes.old.items }
     ensures fits { IfOk result (λ n. filled + n ≤ vec_len bytes.new) }
-    ensures read { IfOk result (λ n. Consumes (S.shows shelf.old).rest (S.shows shelf.new).rest (take n (drop filled bytes.new.items))) }
+    ensures read { IfOk result (λ n. Consumes (S.shows shelf.old).rest (S.shows shelf.new).rest
+        (take n (drop filled bytes.new.items))) }
     ensures end { IfOk result (λ n. n ≡ 0 → IsAtEnd (S.shows shelf.new).rest) }
 
     ensures broken { IsTrue (S.shows shelf.new).broken ↔ (result ≡ Err ReadAll.ReadFault) }
-    ensures count { Counted (S.shows shelf.new).broken (S.shows shelf.old).faults (S.shows shelf.new).faults }
+    ensures count { Counted (S.shows shelf.new).broken
+        (S.shows shelf.old).faults (S.shows shelf.new).faults }
     ensures short { result ≡ Err ReadAll.TooLong → ⊥ }
     ensures named { (S.shows shelf.new).named ≡ (S.shows shelf.old).named }
     ensures starts { (S.shows shelf.new).starts ≡ (S.shows shelf.old).starts }

@@ -39,7 +39,8 @@ impl SureSink {
 
     /// The bytes, if all were kept.
     pub fn taken(&self) -> Option<&[u8]>
-        ensures { MatchOption result (IsTrue self.now.over) (λ bytes. (self.now.over ≡ false) × (bytes.now ≡ self.now.taken)) }
+        ensures { MatchOption result (IsTrue self.now.over)
+            (λ bytes. (self.now.over ≡ false) × (bytes.now ≡ self.now.taken)) }
     {
         if self.over { None } else { Some(&self.taken) }
     }

@@ -31,7 +31,8 @@ fn body(alloc: Global, bytes: &[u8], first: usize) -> Result<Found, Stl>
     ensures found { IfOk result (λ found. Reads (body bytes.now first nothing) (Ok found)) }
     ensures few { IfOk result (λ found. count found ≤ 200_000) }
     ensures near { IfOk result (λ found. All IsNearFacet found.facets) }
-    ensures refused { IfErr result (λ e. (e ≡ Stl.NoMemory) ⊎ Reads (body bytes.now first nothing) (Err e)) }
+    ensures refused { IfErr result
+        (λ e. (e ≡ Stl.NoMemory) ⊎ Reads (body bytes.now first nothing) (Err e)) }
 {
     let mut found = Found::nothing(alloc);
     let mut at = first;
@@ -71,7 +72,10 @@ pub fn read_mesh(alloc: Global, bytes: &[u8]) -> Result<Mesh, Stl>
 
 /// No bytes are two meshes, or refused for two causes, or a mesh and refused.
 pub fn one_answer()
-    ensures mesh { (bytes : List ℕ) (fs gs : List Facet) (d e : ℕ) → MeshOf bytes fs d → MeshOf bytes gs e → (fs ≡ gs) × (d ≡ e) }
-    ensures refusal { (bytes : List ℕ) (why other : Stl) → IsRefused bytes why → IsRefused bytes other → why ≡ other }
-    ensures not_both { (bytes : List ℕ) (why : Stl) (fs : List Facet) (d : ℕ) → IsRefused bytes why → MeshOf bytes fs d → ⊥ }
+    ensures mesh { (bytes : List ℕ) (fs gs : List Facet) (d e : ℕ)
+        → MeshOf bytes fs d → MeshOf bytes gs e → (fs ≡ gs) × (d ≡ e) }
+    ensures refusal { (bytes : List ℕ) (why other : Stl)
+        → IsRefused bytes why → IsRefused bytes other → why ≡ other }
+    ensures not_both { (bytes : List ℕ) (why : Stl) (fs : List Facet) (d : ℕ)
+        → IsRefused bytes why → MeshOf bytes fs d → ⊥ }
 {}

@@ -73,7 +73,7 @@ fn facets_read(mesh: &Mesh) -> u64
     mesh.facets.len() as u64 + u64::from(mesh.dropped)
 }
 
-// The object of a made file.
+// The object of a made file: the bands of the made printer are 10 mm high, by which every made mesh can be sliced.
 fn made_object(alloc: Global, file: &MemFile, printer: &Printer) -> Result<Made, NoMemory>
     requires file { IsUsableFile file.now }
     requires step { printer.now.step ≡ pos 10_000 }

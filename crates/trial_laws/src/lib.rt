@@ -17,7 +17,8 @@ pub fn the_made_printer_is_described()
     ensures { DescribedBy printer_text made_description }
 {}
 
-/// A made mesh is read as twelve facets for each layer of its tower, and it can be sliced.
+/// A made mesh is read as twelve facets for each layer of its tower, and it can be sliced. The number of the object stands in the
+/// name of the mesh, and the laws of spelled numbers go up to 10,000, far above the 16 objects of a trial.
 pub fn a_made_mesh_can_be_used()
     ensures { (object state : ℕ) → object ≤ 10_000
         → IsMadeMesh (mesh_text object state) (facets_at state) }

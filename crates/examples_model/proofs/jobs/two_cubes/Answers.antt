@@ -2,7 +2,7 @@ use Rattle.std.proofs.Common.{rules, ◌≡◌, ◌∷◌, [], subst, sym}
 use Rattle.examples_model.specs.Cubes.{cube, object_of}
 use Rattle.examples_model.specs.Jobs.{sound_cube, two_sound}
 use Rattle.seq_model.specs.Soundness.{AreSoundObjects}
-use Rattle.examples_audit.proofs.tests.two_cubes.Goals as goal
+use Rattle.examples_model.proofs.jobs.two_cubes.Goals as goal
 
 pub invariant_of-result : goal.invariant_of-result
 invariant_of-result c =
