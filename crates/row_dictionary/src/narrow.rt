@@ -1,4 +1,4 @@
-ghost use Rattle.std.specs.Prelude.{◌≡◌, ℕ, ◌<◌, ◌*◌, ◌^◌, List, ℤ, ◌-ℤ◌, ◌*ℤ◌, unsigned_abs, All, IsTrue, length, int_div};
+ghost use Rattle.std.specs.Prelude.{◌≡◌, ◌≢◌, ℕ, ◌<◌, ◌*◌, ◌^◌, List, ℤ, pos, ◌-ℤ◌, ◌*ℤ◌, unsigned_abs, All, IsTrue, length, int_div};
 ghost use Rattle.std.specs.Int.{◌∣◌};
 ghost use Rattle.row_pivots.specs.Ends.{Small};
 ghost use Rattle.row_dictionary.specs.Mixing.{mixed, mixed_line, Narrow, IsNarrowMix, IsLowered};
@@ -6,7 +6,7 @@ ghost use Rattle.row_dictionary.specs.Mixing.{mixed, mixed_line, Narrow, IsNarro
 use crate::division::{divided, is_factor};
 use crate::number::Mix;
 
-fn is_narrow(x: &i64) -> bool
+pub fn is_narrow(x: &i64) -> bool
     ensures { IsTrue result → Narrow x.now }
 {
     x.unsigned_abs() < 1 << 30
@@ -32,6 +32,12 @@ fn lowered(x: &i64, g: &i128) -> i64
     ensures is { result ≡ int_div x.now g.now }
     ensures size { Small result }
 {
+    if *x == 0 {
+        return 0;
+    }
+    if i128::from(*x) == *g {
+        return 1;
+    }
     divided(&i128::from(*x), g) as i64
 }
 
@@ -138,17 +144,87 @@ fn new_narrow(mix: &Mix, i: usize, z: &i64, y: &i64) -> i64
     narrow_quotient(&narrow_number(mix, i, z, y), &mix.g)
 }
 
-/// The line, pivoted, where all its numbers and all that it is multiplied by are below 2^30 in size.
-pub fn pivot_narrow(line: &mut [i64], by: &[i64], mix: &Mix)
+/// Whether the number at a place stays as it is, where the divisor is the factor: what leaves has none there.
+fn stays(mix: &Mix, i: usize, y: &i64) -> bool
+    ensures { IsTrue result → (y.now ≡ pos 0) × (i ≢ mix.now.place) }
+{
+    *y == 0 && i != mix.place
+}
+
+/// Whether the new number at a place is 0 as the old one: neither line has one there.
+fn is_empty(mix: &Mix, i: usize, z: &i64, y: &i64) -> bool
+    ensures { IsTrue result → (z.now ≡ pos 0) × (y.now ≡ pos 0) × (i ≢ mix.now.place) }
+{
+    *z == 0 && *y == 0 && i != mix.place
+}
+
+/// Whether all numbers are narrow, and one more.
+fn and_narrow(narrow: bool, x: &i64) -> bool
+    ensures all { IsTrue result → IsTrue narrow }
+    ensures one { IsTrue result → Narrow x.now }
+{
+    narrow && is_narrow(x)
+}
+
+/// The line, pivoted, where the divisor is the factor: what leaves has a number at few places.
+fn pivot_kept(line: &mut [i64], by: &[i64], mix: &Mix) -> bool
+    requires mix { IsNarrowMix mix.now }
+    requires g { 0 < unsigned_abs mix.now.g }
+    requires kept { mix.now.p ≡ mix.now.g }
+    requires line { All Narrow line.old }
+    requires by { All Narrow by.now }
+    requires len { length line.old ≡ length by.now }
+    requires place { mix.now.place < length line.old }
+    ensures is { line.new ≡ mixed_line mix.now line.old by.now }
+    ensures narrow { IsTrue result → All Narrow line.new }
+{
+    let mut narrow = true;
+    for i in 0..line.len() {
+        if !stays(mix, i, &by[i]) {
+            let x = new_narrow(mix, i, &line[i], &by[i]);
+            line[i] = x;
+            narrow = and_narrow(narrow, &x);
+        }
+    }
+    narrow
+}
+
+/// The line, pivoted.
+fn pivot_each(line: &mut [i64], by: &[i64], mix: &Mix) -> bool
     requires mix { IsNarrowMix mix.now }
     requires g { 0 < unsigned_abs mix.now.g }
     requires line { All Narrow line.old }
     requires by { All Narrow by.now }
     requires len { length line.old ≡ length by.now }
     requires place { mix.now.place < length line.old }
-    ensures { line.new ≡ mixed_line mix.now line.old by.now }
+    ensures is { line.new ≡ mixed_line mix.now line.old by.now }
+    ensures narrow { IsTrue result → All Narrow line.new }
 {
+    let mut narrow = true;
     for i in 0..line.len() {
-        line[i] = new_narrow(mix, i, &line[i], &by[i]);
+        if !is_empty(mix, i, &line[i], &by[i]) {
+            let x = new_narrow(mix, i, &line[i], &by[i]);
+            line[i] = x;
+            narrow = and_narrow(narrow, &x);
+        }
     }
+    narrow
+}
+
+/// The line, pivoted, where all its numbers and all that it is multiplied by are below 2^30 in size; and whether its new
+/// numbers are so too.
+pub fn pivot_narrow(line: &mut [i64], by: &[i64], mix: &Mix) -> bool
+    requires mix { IsNarrowMix mix.now }
+    requires g { 0 < unsigned_abs mix.now.g }
+    requires line { All Narrow line.old }
+    requires by { All Narrow by.now }
+    requires len { length line.old ≡ length by.now }
+    requires place { mix.now.place < length line.old }
+    ensures is { line.new ≡ mixed_line mix.now line.old by.now }
+    ensures narrow { IsTrue result → All Narrow line.new }
+{
+    if i128::from(mix.p) == mix.g {
+        return pivot_kept(line, by, mix);
+    }
+    pivot_each(line, by, mix)
 }
