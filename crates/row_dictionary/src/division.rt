@@ -8,7 +8,7 @@ fn are_short(x: &i128, y: &i128) -> bool
     x.unsigned_abs() < 1 << 63 && y.unsigned_abs() < 1 << 63
 }
 
-fn short(x: &i128) -> i64
+pub fn short(x: &i128) -> i64
     requires { unsigned_abs x.now < 2 ^ 63 }
     ensures value { result ≡ x.now }
     ensures size { unsigned_abs result < 2 ^ 63 }
@@ -48,7 +48,8 @@ fn divided_brief(x: &i64, g: &i64) -> i64
     i64::from(brief_quotient(&brief(x), &brief(g)))
 }
 
-fn short_quotient(x: &i64, g: &i64) -> i64
+/// The quotient, towards 0.
+pub fn short_quotient(x: &i64, g: &i64) -> i64
     requires x { unsigned_abs x.now < 2 ^ 63 }
     requires g { 0 < unsigned_abs g.now }
     ensures value { result ≡ int_div x.now g.now }

@@ -1,9 +1,9 @@
-ghost use Rattle.std.specs.Prelude.{◌≡◌, ◌≢◌, ℕ, ◌<◌, ◌*◌, ◌^◌, List, ℤ, pos, ◌-ℤ◌, ◌*ℤ◌, unsigned_abs, All, IsTrue, length, int_div};
+ghost use Rattle.std.specs.Prelude.{◌≡◌, ◌≢◌, ℕ, ◌<◌, ◌*◌, ◌^◌, List, ℤ, pos, ◌-ℤ◌, ◌*ℤ◌, unsigned_abs, All, IsTrue, length, int_div, Option, Some};
 ghost use Rattle.std.specs.Int.{◌∣◌};
 ghost use Rattle.row_pivots.specs.Ends.{Small};
-ghost use Rattle.row_dictionary.specs.Mixing.{mixed, mixed_line, Narrow, IsNarrowMix, IsLowered};
+ghost use Rattle.row_dictionary.specs.Mixing.{mixed, mixed_line, Narrow, IsNarrowMix, IsWhole, IsLowered};
 
-use crate::division::{divided, is_factor};
+use crate::division::{divided, is_factor, short, short_quotient};
 use crate::number::Mix;
 
 pub fn is_narrow(x: &i64) -> bool
@@ -17,6 +17,13 @@ pub fn are_narrow(numbers: &[i64]) -> bool
     ensures { IsTrue result → All Narrow numbers.now }
 {
     numbers.iter().all(|x| is_narrow(x))
+}
+
+/// Whether 64 bits hold the divisor.
+pub fn has_short_divisor(mix: &Mix) -> bool
+    ensures { IsTrue result → unsigned_abs mix.now.g < 2 ^ 63 }
+{
+    mix.g.unsigned_abs() < 1 << 63
 }
 
 /// Whether what lines are multiplied by is below 2^30 in size.
@@ -41,22 +48,49 @@ fn lowered(x: &i64, g: &i128) -> i64
     divided(&i128::from(*x), g) as i64
 }
 
-/// What gives the same line without a division, where the divisor divides what both lines are multiplied by.
-pub fn lowest(mix: &Mix) -> Mix
+/// How often the divisor goes into the factor, where it divides it.
+pub fn whole_factor(p: &i64, g: &i128) -> Option<i64>
+    requires p { Small p.now }
+    requires g { 0 < unsigned_abs g.now }
+    ensures { (x : ℤ) → result ≡ Some x → IsWhole p.now g.now x }
+{
+    if !is_factor(g, p) {
+        return None;
+    }
+    Some(lowered(p, g))
+}
+
+/// What gives the same line without a division, where the divisor divides the entry too.
+fn lowest_by(mix: &Mix, p: &i64) -> Mix
+    requires whole { IsWhole mix.now.p mix.now.g p.now }
     requires p { Small mix.now.p }
     requires q { Small mix.now.q }
     requires g { 0 < unsigned_abs mix.now.g }
     ensures { IsLowered mix.now result }
 {
-    if !is_factor(&mix.g, &mix.q) || !is_factor(&mix.g, &mix.p) {
+    if !is_factor(&mix.g, &mix.q) {
         return *mix;
     }
     Mix {
         d: mix.d,
-        p: lowered(&mix.p, &mix.g),
+        p: *p,
         q: lowered(&mix.q, &mix.g),
         g: 1,
         place: mix.place,
+    }
+}
+
+/// What gives the same line without a division, where the divisor divides what both lines are multiplied by.
+pub fn lowest(mix: &Mix, whole: &Option<i64>) -> Mix
+    requires whole { (x : ℤ) → whole.now ≡ Some x → IsWhole mix.now.p mix.now.g x }
+    requires p { Small mix.now.p }
+    requires q { Small mix.now.q }
+    requires g { 0 < unsigned_abs mix.now.g }
+    ensures { IsLowered mix.now result }
+{
+    match whole {
+        None => *mix,
+        Some(p) => lowest_by(mix, p),
     }
 }
 
@@ -122,26 +156,27 @@ fn narrow_number(mix: &Mix, j: usize, z: &i64, y: &i64) -> i64
 }
 
 /// The quotient by the divisor.
-fn narrow_quotient(x: &i64, g: &i128) -> i64
+fn narrow_quotient(x: &i64, g: &i64) -> i64
     requires x { Small x.now }
     requires g { 0 < unsigned_abs g.now }
     ensures { result ≡ int_div x.now g.now }
 {
-    if *g == 1 || *x == 0 {
+    if *g == 1 {
         return *x;
     }
-    divided(&i128::from(*x), g) as i64
+    short_quotient(x, g)
 }
 
 /// The new number at a place.
-fn new_narrow(mix: &Mix, i: usize, z: &i64, y: &i64) -> i64
+fn new_narrow(mix: &Mix, g: &i64, i: usize, z: &i64, y: &i64) -> i64
     requires mix { IsNarrowMix mix.now }
-    requires g { 0 < unsigned_abs mix.now.g }
+    requires some { 0 < unsigned_abs mix.now.g }
+    requires g { g.now ≡ mix.now.g }
     requires z { Narrow z.now }
     requires y { Narrow y.now }
     ensures { result ≡ int_div (mixed mix.now i z.now y.now) mix.now.g }
 {
-    narrow_quotient(&narrow_number(mix, i, z, y), &mix.g)
+    narrow_quotient(&narrow_number(mix, i, z, y), g)
 }
 
 /// Whether the number at a place stays as it is, where the divisor is the factor: what leaves has none there.
@@ -167,9 +202,10 @@ fn and_narrow(narrow: bool, x: &i64) -> bool
 }
 
 /// The line, pivoted, where the divisor is the factor: what leaves has a number at few places.
-fn pivot_kept(line: &mut [i64], by: &[i64], mix: &Mix) -> bool
+fn pivot_kept(line: &mut [i64], by: &[i64], mix: &Mix, g: &i64) -> bool
     requires mix { IsNarrowMix mix.now }
-    requires g { 0 < unsigned_abs mix.now.g }
+    requires some { 0 < unsigned_abs mix.now.g }
+    requires g { g.now ≡ mix.now.g }
     requires kept { mix.now.p ≡ mix.now.g }
     requires line { All Narrow line.old }
     requires by { All Narrow by.now }
@@ -181,7 +217,7 @@ fn pivot_kept(line: &mut [i64], by: &[i64], mix: &Mix) -> bool
     let mut narrow = true;
     for i in 0..line.len() {
         if !stays(mix, i, &by[i]) {
-            let x = new_narrow(mix, i, &line[i], &by[i]);
+            let x = new_narrow(mix, g, i, &line[i], &by[i]);
             line[i] = x;
             narrow = and_narrow(narrow, &x);
         }
@@ -190,9 +226,10 @@ fn pivot_kept(line: &mut [i64], by: &[i64], mix: &Mix) -> bool
 }
 
 /// The line, pivoted.
-fn pivot_each(line: &mut [i64], by: &[i64], mix: &Mix) -> bool
+fn pivot_each(line: &mut [i64], by: &[i64], mix: &Mix, g: &i64) -> bool
     requires mix { IsNarrowMix mix.now }
-    requires g { 0 < unsigned_abs mix.now.g }
+    requires some { 0 < unsigned_abs mix.now.g }
+    requires g { g.now ≡ mix.now.g }
     requires line { All Narrow line.old }
     requires by { All Narrow by.now }
     requires len { length line.old ≡ length by.now }
@@ -203,7 +240,7 @@ fn pivot_each(line: &mut [i64], by: &[i64], mix: &Mix) -> bool
     let mut narrow = true;
     for i in 0..line.len() {
         if !is_empty(mix, i, &line[i], &by[i]) {
-            let x = new_narrow(mix, i, &line[i], &by[i]);
+            let x = new_narrow(mix, g, i, &line[i], &by[i]);
             line[i] = x;
             narrow = and_narrow(narrow, &x);
         }
@@ -216,6 +253,7 @@ fn pivot_each(line: &mut [i64], by: &[i64], mix: &Mix) -> bool
 pub fn pivot_narrow(line: &mut [i64], by: &[i64], mix: &Mix) -> bool
     requires mix { IsNarrowMix mix.now }
     requires g { 0 < unsigned_abs mix.now.g }
+    requires short { unsigned_abs mix.now.g < 2 ^ 63 }
     requires line { All Narrow line.old }
     requires by { All Narrow by.now }
     requires len { length line.old ≡ length by.now }
@@ -223,8 +261,9 @@ pub fn pivot_narrow(line: &mut [i64], by: &[i64], mix: &Mix) -> bool
     ensures is { line.new ≡ mixed_line mix.now line.old by.now }
     ensures narrow { IsTrue result → All Narrow line.new }
 {
-    if i128::from(mix.p) == mix.g {
-        return pivot_kept(line, by, mix);
+    let g = short(&mix.g);
+    if mix.p == g {
+        return pivot_kept(line, by, mix, &g);
     }
-    pivot_each(line, by, mix)
+    pivot_each(line, by, mix, &g)
 }

@@ -29,7 +29,7 @@ loop-i-preserved c =
           )
       | else-not-stays w ↦
           let k = c.stays.ensures w.if-not-stays.false in
-          let same : get_or zs i (pos 0) ≡ get_or new i (pos 0) = sym (kept_number m i (get_or zs i (pos 0)) (get_or ys i (pos 0)) k.0 c.requires.kept k.1 c.requires.g) ∙ quotient_is m zs ys i (pos 0) c.requires.len within in (
+          let same : get_or zs i (pos 0) ≡ get_or new i (pos 0) = sym (kept_number m i (get_or zs i (pos 0)) (get_or ys i (pos 0)) k.0 c.requires.kept k.1 c.requires.some) ∙ quotient_is m zs ys i (pos 0) c.requires.len within in (
             w.line-is ∙ rewritten_same i new zs c.loop-i.line (pos 0) long within_new c.loop-i.invariant.0 same,
             λ t. narrow_more new i (get_or zs i (pos 0)) within_new (c.loop-i.invariant.1 (subst IsTrue w.narrow-is t)) same (All-get_or Narrow zs i (pos 0) within c.requires.line),
           )
