@@ -248,6 +248,26 @@ fn pivot_each(line: &mut [i64], by: &[i64], mix: &Mix, g: &i64) -> bool
     narrow
 }
 
+/// The line, pivoted, where nothing is divided.
+fn pivot_whole(line: &mut [i64], by: &[i64], mix: &Mix) -> bool
+    requires mix { IsNarrowMix mix.now }
+    requires g { mix.now.g ≡ pos 1 }
+    requires line { All Narrow line.old }
+    requires by { All Narrow by.now }
+    requires len { length line.old ≡ length by.now }
+    requires place { mix.now.place < length line.old }
+    ensures is { line.new ≡ mixed_line mix.now line.old by.now }
+    ensures narrow { IsTrue result → All Narrow line.new }
+{
+    let mut narrow = true;
+    for i in 0..line.len() {
+        let x = narrow_number(mix, i, &line[i], &by[i]);
+        line[i] = x;
+        narrow = and_narrow(narrow, &x);
+    }
+    narrow
+}
+
 /// The line, pivoted, where all its numbers and all that it is multiplied by are below 2^30 in size; and whether its new
 /// numbers are so too.
 pub fn pivot_narrow(line: &mut [i64], by: &[i64], mix: &Mix) -> bool
@@ -264,6 +284,9 @@ pub fn pivot_narrow(line: &mut [i64], by: &[i64], mix: &Mix) -> bool
     let g = short(&mix.g);
     if mix.p == g {
         return pivot_kept(line, by, mix, &g);
+    }
+    if g == 1 {
+        return pivot_whole(line, by, mix);
     }
     pivot_each(line, by, mix, &g)
 }
