@@ -96,7 +96,8 @@ fn divides_brief(found: &i64, x: &i64) -> bool
     brief_divides(&brief(found), &brief(x))
 }
 
-fn short_divides(found: &i64, x: &i64) -> bool
+/// Whether a positive number divides another.
+pub fn short_divides(found: &i64, x: &i64) -> bool
     ensures { IsTrue result → (pos 0 <ℤ found.now) × (int_rem x.now found.now ≡ pos 0) }
 {
     if are_brief(found, x) {

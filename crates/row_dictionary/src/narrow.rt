@@ -1,10 +1,12 @@
-ghost use Rattle.std.specs.Prelude.{◌≡◌, ◌≢◌, ℕ, ◌<◌, ◌*◌, ◌^◌, List, ℤ, pos, ◌-ℤ◌, ◌*ℤ◌, unsigned_abs, All, IsTrue, length, int_div, Option, Some};
+ghost use Rattle.std.specs.Prelude.{◌≡◌, ◌≢◌, ℕ, ◌<◌, ◌*◌, ◌^◌, List, ℤ, pos, ◌-ℤ◌, ◌*ℤ◌, ◌<ℤ◌, unsigned_abs, All, IsTrue, length, int_div, Option, Some};
 ghost use Rattle.std.specs.Int.{◌∣◌};
+ghost use Rattle.integer_laws.specs.Divisors.{IsGcdOf};
 ghost use Rattle.row_pivots.specs.Ends.{Small};
-ghost use Rattle.row_dictionary.specs.Mixing.{mixed, mixed_line, Narrow, IsNarrowMix, IsWhole, IsLowered};
+ghost use Rattle.row_dictionary.specs.Mixing.{mixed, mixed_numbers, mixed_line, IsCommon, Narrow, IsNarrowMix, IsWhole, IsLowered};
 
-use crate::division::{divided, is_factor, short, short_quotient};
+use crate::division::{divided, is_factor, short, short_divides, short_quotient};
 use crate::number::Mix;
+use seq_num::gcd;
 
 pub fn is_narrow(x: &i64) -> bool
     ensures { IsTrue result → Narrow x.now }
@@ -289,4 +291,79 @@ pub fn pivot_narrow(line: &mut [i64], by: &[i64], mix: &Mix) -> bool
         return pivot_whole(line, by, mix);
     }
     pivot_each(line, by, mix, &g)
+}
+
+/// Whether the number at a place is a multiple of what was found, since what leaves has none there.
+fn is_multiple(found: &i64, mix: &Mix, i: usize, y: &i64) -> bool
+    ensures { IsTrue result → (y.now ≡ pos 0) × (mix.now.p ≡ found.now) × (i ≢ mix.now.place) × (pos 0 <ℤ found.now) }
+{
+    *y == 0 && mix.p == *found && i != mix.place && *found > 0
+}
+
+/// Whether the number at a place is 0, since neither line has one there.
+fn is_nothing(found: &i64, mix: &Mix, i: usize, z: &i64, y: &i64) -> bool
+    ensures { IsTrue result → (y.now ≡ pos 0) × (z.now ≡ pos 0) × (i ≢ mix.now.place) × (pos 0 <ℤ found.now) }
+{
+    *y == 0 && *z == 0 && i != mix.place && *found > 0
+}
+
+fn short_gcd(a: &i64, b: &i64) -> i64
+    requires a { unsigned_abs a.now < 2 ^ 63 }
+    requires b { unsigned_abs b.now < 2 ^ 63 }
+    ensures is { IsGcdOf a.now b.now result }
+    ensures size { unsigned_abs result < 2 ^ 63 }
+{
+    gcd(i128::from(*a), i128::from(*b)) as i64
+}
+
+/// The greatest common divisor of two numbers, of which the first mostly divides the second.
+fn short_common(found: &i64, x: &i64) -> i64
+    requires found { unsigned_abs found.now < 2 ^ 63 }
+    requires x { unsigned_abs x.now < 2 ^ 63 }
+    ensures is { IsGcdOf found.now x.now result }
+    ensures size { unsigned_abs result < 2 ^ 63 }
+{
+    if short_divides(found, x) {
+        return *found;
+    }
+    short_gcd(found, x)
+}
+
+/// The common divisor of a number and the one at a place, before it is divided.
+fn narrow_divisor_with(found: &i64, mix: &Mix, i: usize, z: &i64, y: &i64) -> i64
+    requires mix { IsNarrowMix mix.now }
+    requires z { Narrow z.now }
+    requires y { Narrow y.now }
+    requires found { unsigned_abs found.now < 2 ^ 63 }
+    ensures is { IsGcdOf found.now (mixed mix.now i z.now y.now) result }
+    ensures size { unsigned_abs result < 2 ^ 63 }
+{
+    if is_nothing(found, mix, i, z, y) {
+        return *found;
+    }
+    if is_multiple(found, mix, i, y) {
+        return *found;
+    }
+    short_common(found, &narrow_number(mix, i, z, y))
+}
+
+/// The common divisor of a number and all numbers of a line, before they are divided, where all are below 2^30 in size.
+pub fn narrow_divisor(start: &i64, line: &[i64], by: &[i64], mix: &Mix) -> i64
+    requires mix { IsNarrowMix mix.now }
+    requires start { unsigned_abs start.now < 2 ^ 63 }
+    requires line { All Narrow line.now }
+    requires by { All Narrow by.now }
+    requires len { length line.now ≡ length by.now }
+    requires place { mix.now.place < length line.now }
+    ensures divisors { IsCommon start.now (mixed_numbers mix.now line.now by.now) result }
+    ensures size { unsigned_abs result < 2 ^ 63 }
+{
+    let mut found = *start;
+    for i in 0..line.len() {
+        if found == 1 {
+            return 1;
+        }
+        found = narrow_divisor_with(&found, mix, i, &line[i], &by[i]);
+    }
+    found
 }
