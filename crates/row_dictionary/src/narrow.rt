@@ -347,6 +347,17 @@ fn narrow_divisor_with(found: &i64, mix: &Mix, i: usize, z: &i64, y: &i64) -> i6
     short_common(found, &narrow_number(mix, i, z, y))
 }
 
+/// Whether all numbers of the line are surely multiples of what was found.
+fn is_settled(found: &i64, mix: &Mix) -> bool
+    ensures q { IsTrue result → unsigned_abs found.now ∣ unsigned_abs mix.now.q }
+    ensures p { IsTrue result → unsigned_abs found.now ∣ unsigned_abs mix.now.p }
+{
+    if *found == 1 {
+        return true;
+    }
+    mix.q == 0 && mix.p == *found
+}
+
 /// The common divisor of a number and all numbers of a line, before they are divided, where all are below 2^30 in size.
 pub fn narrow_divisor(start: &i64, line: &[i64], by: &[i64], mix: &Mix) -> i64
     requires mix { IsNarrowMix mix.now }
@@ -360,8 +371,8 @@ pub fn narrow_divisor(start: &i64, line: &[i64], by: &[i64], mix: &Mix) -> i64
 {
     let mut found = *start;
     for i in 0..line.len() {
-        if found == 1 {
-            return 1;
+        if is_settled(&found, mix) {
+            return found;
         }
         found = narrow_divisor_with(&found, mix, i, &line[i], &by[i]);
     }

@@ -1,6 +1,7 @@
 use Rattle.std.proofs.Common.{rules, w64, ◌<◌, ◌^◌, ◌+◌, length, pos, sym, ap, subst, arith, SFits, to_z, to_z-of_z, unsigned_abs, take}
 use Rattle.row_dictionary.specs.Mixing.{mixed_numbers, IsCommon}
-use Rattle.row_dictionary.proofs.Numbers.{number_is, long_numbers, common_none, common_more, common_one, common_all}
+use Rattle.row_dictionary.proofs.Keeping.{multiples_common}
+use Rattle.row_dictionary.proofs.Numbers.{number_is, long_numbers, common_none, common_more, common_settled, common_all}
 use Rattle.row_dictionary.proofs.narrow.narrow_divisor.Goals as goal
 
 pub loop-i-init : goal.loop-i-init
@@ -9,9 +10,12 @@ loop-i-init c =
     subst (λ t. IsCommon c.args.start.now (take 0 (mixed_numbers c.args.mix.now c.args.line.now c.args.by.now)) t × (unsigned_abs t < 2 ^ 63)) (sym (to_z-of_z fits))
     (common_none c.args.start.now (mixed_numbers c.args.mix.now c.args.line.now c.args.by.now), c.requires.start)
 
-pub returns-then-found-eq1-clause-divisors : goal.returns-then-found-eq1-clause-divisors
-returns-then-found-eq1-clause-divisors c =
-    common_one c.args.start.now (mixed_numbers c.args.mix.now c.args.line.now c.args.by.now) c.loop-i.i (to_z w64 c.loop-i.found-bits) (ap (to_z w64) c.if-found-eq1.true) c.loop-i.invariant.0
+pub returns-then-is_settled-clause-divisors : goal.returns-then-is_settled-clause-divisors
+returns-then-is_settled-clause-divisors c =
+    let m = c.args.mix.now in
+    let t = c.if-is_settled.true in
+    common_settled c.args.start.now (mixed_numbers m c.args.line.now c.args.by.now) c.loop-i.i (to_z w64 c.loop-i.found-bits) c.loop-i.invariant.0
+    (multiples_common m c.args.line.now c.args.by.now (to_z w64 c.loop-i.found-bits) c.requires.len (c.is_settled.ensures.q t) (c.is_settled.ensures.p t))
 
 pub loop-i-preserved : goal.loop-i-preserved
 loop-i-preserved c =
