@@ -22,7 +22,7 @@ some g h e = absurd (omega (arith, ints, h, ap unsigned_abs e))
 abbrev pub low_of : Mix → Mix
 low_of m = record { d = m.d; p = int_div m.p m.g; q = int_div m.q m.g; g = pos 1; place = m.place }
 
-by_one : (x : ℤ) → int_div x (pos 1) ≡ x
+pub by_one : (x : ℤ) → int_div x (pos 1) ≡ x
 by_one x = ap (λ t. int_div t (pos 1)) (once x) ∙ times_quotient (pos 1) x (λ e. absurd (omega (arith, ints, e)))
   where
     once : (x : ℤ) → x ≡ pos 1 *ℤ x

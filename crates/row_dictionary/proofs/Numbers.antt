@@ -99,6 +99,10 @@ common_one s xs i found e c k = (there, λ p. subst (λ t. k ∣ unsigned_abs t)
     there : k ∣ 1 → (k ∣ unsigned_abs s) × All (λ x. k ∣ unsigned_abs x) xs
     there v = let o = eq-one_of_dvd-one v in (one_divides k (unsigned_abs s) o, All-from_in (λ x. k ∣ unsigned_abs x) xs (λ y m. one_divides k (unsigned_abs y) o))
 
+-- all numbers are multiples of what was found
+pub common_settled : (s : ℤ) (xs : List ℤ) (i : ℕ) (found : ℤ) → IsCommon s (take i xs) found → IsCommon found xs found → IsCommon s xs found
+common_settled s xs i found c all k = (λ h. (((c k).0 h).0, ((all k).0 h).1), λ p. (c k).1 (p.0, from_take (λ x. k ∣ unsigned_abs x) xs i p.1))
+
 pub common_all : (s : ℤ) (xs : List ℤ) (i : ℕ) (found : ℤ) → length xs ≤ i → IsCommon s (take i xs) found → IsCommon s xs found
 common_all s xs i found h c = subst (λ t. IsCommon s t found) (take_all i xs h) c
 

@@ -14,7 +14,8 @@ use Rattle.row_pivots.specs.Laws.WideRows.{wide_row}
 use Rattle.std.proofs.lemmas.List.Elements.{All-cons, All-get_or}
 use Rattle.row_pivots.specs.Ends.{Small}
 use Rattle.row_dictionary.specs.Tables.{IsLine, AreLines}
-use Rattle.row_dictionary.specs.Turns.{Before, whole_den, whole_lines, swapped_basic, swapped_free, Done, Refused}
+use Rattle.row_dictionary.specs.Turns.{IsDivisor, Before, whole_den, whole_lines, variable_lines, swapped_basic, swapped_free, Done, Refused}
+use Rattle.row_dictionary.proofs.ByVariables.{line_there, all_divided, variables_divided}
 use Rattle.row_dictionary.proofs.Lines.{at_map}
 use Rattle.seq_model.specs.Dictionaries.{Has, WideAt}
 use Rattle.seq_model.specs.declared.row.Row.{Row}
@@ -22,25 +23,18 @@ use Rattle.seq_model.specs.declared.row.Row.{Row}
 abbrev HoldsIt : ℕ → List Row → Before → Type 0
 HoldsIt vars rows b = Holds vars rows b.d b.basic b.free b.lines
 
-pub done_holds : (vars : ℕ) (rows : List Row) (b after : Before) (r s : ℕ) → HoldsIt vars rows b → r < length b.basic → s < length b.free → Done b r s after → HoldsIt vars rows after
+whole_divisor : (vars : ℕ) (rows : List Row) (b : Before) (r s : ℕ) (g : ℤ) → HoldsIt vars rows b → r < length b.basic → s < length b.free → IsDivisor (whole_den b r s) (variable_lines vars b r s) g → IsDivisor (whole_den b r s) (whole_lines b r s) g
+whole_divisor vars rows b r s g h in_r in_s v = record { some = v.some; content = λ n. (λ k. (((v.content n).0 k).0, all_divided vars rows b.d b.basic b.free b.lines h r s in_r in_s n ((v.content n).0 k).0 ((v.content n).0 k).1), λ k. (v.content n).1 (k.0, variables_divided n vars (swapped_basic b r s) (whole_lines b r s) k.1)); sign = v.sign }
+
+pub done_holds : (vars : ℕ) (rows : List Row) (b after : Before) (r s : ℕ) → HoldsIt vars rows b → r < length b.basic → s < length b.free → Done vars b r s after → HoldsIt vars rows after
 done_holds vars rows b after r s h in_r in_s d =
     subst (λ t. Holds vars rows t after.basic after.free after.lines) (sym d.d)
     (subst (λ t. Holds vars rows (int_div (whole_den b r s) d.g) after.basic after.free t) (sym d.lines)
     (subst (λ t. Holds vars rows (int_div (whole_den b r s) d.g) after.basic t (map (quotients d.g) (whole_lines b r s))) (sym d.free)
     (subst (λ t. Holds vars rows (int_div (whole_den b r s) d.g) t (swapped_free b r s) (map (quotients d.g) (whole_lines b r s))) (sym d.basic)
-    (turned vars rows b.d b.basic b.free b.lines h r s in_r in_s d.g d.by.some d.by.content d.by.sign))))
+    (turned vars rows b.d b.basic b.free b.lines h r s in_r in_s d.g (whole_divisor vars rows b r s d.g h in_r in_s d.by).some (whole_divisor vars rows b r s d.g h in_r in_s d.by).content (whole_divisor vars rows b r s d.g h in_r in_s d.by).sign))))
 
-has_at : {X : Type 0} (zs : List ℕ) (xs : List X) (i : ℕ) (d : X) → i < length zs → length zs ≡ length xs → Has zs xs (get_or zs i 0) (get_or xs i d)
-has_at [] xs i d h l = absurd (omega (arith, h))
-has_at (z ∷ zs) [] i d h l = absurd (omega (arith, l))
-has_at (z ∷ zs) (x ∷ xs) zero d h l = inl (refl, refl)
-has_at (z ∷ zs) (x ∷ xs) (suc i) d h l = inr (has_at zs xs i d (omega (arith, h)) (omega (arith, l)))
-
--- the line of what stands at a place
-line_there : (basic : List ℕ) (lines : List (List ℤ)) (i z : ℕ) → Fresh basic → length basic ≡ length lines → i < length basic → get_or basic i 0 ≡ z → line_or z basic lines ≡ get_or lines i []
-line_there basic lines i z f l h e = line_is z basic lines (get_or lines i []) f (subst (λ t. Has basic lines t (get_or lines i [])) e (has_at basic lines i [] h l))
-
-pub refused_wide : (vars : ℕ) (rows : List Row) (b : Before) (r s z : ℕ) → HoldsIt vars rows b → r < length b.basic → s < length b.free → Refused b r s z
+pub refused_wide : (vars : ℕ) (rows : List Row) (b : Before) (r s z : ℕ) → HoldsIt vars rows b → r < length b.basic → s < length b.free → Refused vars b r s z
     → WideAt vars rows (rising (vars + length rows) (swapped_basic b r s)) z
 refused_wide vars rows b r s z h in_r in_s w = (wide_row vars rows e basic (swapped_free b r s) lines T z in_z).1 not_small
   where
@@ -54,7 +48,7 @@ refused_wide vars rows b r s z h in_r in_s w = (wide_row vars rows e basic (swap
     lines = map (quotients w.g) (whole_lines b r s)
 
     T : Holds vars rows (int_div (whole_den b r s) w.g) (swapped_basic b r s) (swapped_free b r s) (map (quotients w.g) (whole_lines b r s))
-    T = turned vars rows b.d b.basic b.free b.lines h r s in_r in_s w.g w.by.some w.by.content w.by.sign
+    T = turned vars rows b.d b.basic b.free b.lines h r s in_r in_s w.g (whole_divisor vars rows b r s w.g h in_r in_s w.by).some (whole_divisor vars rows b r s w.g h in_r in_s w.by).content (whole_divisor vars rows b r s w.g h in_r in_s w.by).sign
 
     long : length (swapped_basic b r s) ≡ length (map (quotients w.g) (whole_lines b r s))
     long = says_long vars rows (int_div (whole_den b r s) w.g) (swapped_free b r s) (swapped_basic b r s) (map (quotients w.g) (whole_lines b r s)) T.says
@@ -73,12 +67,12 @@ refused_wide vars rows b r s z h in_r in_s w = (wide_row vars rows e basic (swap
         w.least.0.3 (subst (All Small) (sym (at_map (λ (t : List ℤ). int_div (whole_den b r s) w.g ∷ t) (map (quotients w.g) (whole_lines b r s)) i [] [] (let m = long in let k = in_i in omega (arith, m, k))))
         (subst (λ t. All Small (int_div (whole_den b r s) w.g ∷ t)) (line_there (swapped_basic b r s) (map (quotients w.g) (whole_lines b r s)) i z T.fresh_basic long in_i w.least.0.2) all))
 
-pub refused_least : (vars : ℕ) (rows : List Row) (b : Before) (r s z : ℕ) → HoldsIt vars rows b → r < length b.basic → s < length b.free → Refused b r s z
+pub refused_least : (vars : ℕ) (rows : List Row) (b : Before) (r s z : ℕ) → HoldsIt vars rows b → r < length b.basic → s < length b.free → Refused vars b r s z
     → (y : ℕ) → WideAt vars rows (rising (vars + length rows) (swapped_basic b r s)) y → z ≤ y
 refused_least vars rows b r s z h in_r in_s w y wide = subst (λ t. z ≤ t) at.1 (w.least.1 (place_of y (swapped_basic b r s)) in_lines not_small)
   where
     T : Holds vars rows (int_div (whole_den b r s) w.g) (swapped_basic b r s) (swapped_free b r s) (map (quotients w.g) (whole_lines b r s))
-    T = turned vars rows b.d b.basic b.free b.lines h r s in_r in_s w.g w.by.some w.by.content w.by.sign
+    T = turned vars rows b.d b.basic b.free b.lines h r s in_r in_s w.g (whole_divisor vars rows b r s w.g h in_r in_s w.by).some (whole_divisor vars rows b r s w.g h in_r in_s w.by).content (whole_divisor vars rows b r s w.g h in_r in_s w.by).sign
 
     long : length (swapped_basic b r s) ≡ length (map (quotients w.g) (whole_lines b r s))
     long = says_long vars rows (int_div (whole_den b r s) w.g) (swapped_free b r s) (swapped_basic b r s) (map (quotients w.g) (whole_lines b r s)) T.says

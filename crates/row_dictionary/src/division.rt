@@ -8,7 +8,7 @@ fn are_short(x: &i128, y: &i128) -> bool
     x.unsigned_abs() < 1 << 63 && y.unsigned_abs() < 1 << 63
 }
 
-fn short(x: &i128) -> i64
+pub fn short(x: &i128) -> i64
     requires { unsigned_abs x.now < 2 ^ 63 }
     ensures value { result ≡ x.now }
     ensures size { unsigned_abs result < 2 ^ 63 }
@@ -16,11 +16,47 @@ fn short(x: &i128) -> i64
     *x as i64
 }
 
-fn short_quotient(x: &i64, g: &i64) -> i64
+/// Whether both numbers are below 2^31 in size: the division of 32 bits is several times as quick as that of 64.
+fn are_brief(x: &i64, y: &i64) -> bool
+    ensures { IsTrue result → (unsigned_abs x.now < 2 ^ 31) × (unsigned_abs y.now < 2 ^ 31) }
+{
+    x.unsigned_abs() < 1 << 31 && y.unsigned_abs() < 1 << 31
+}
+
+fn brief(x: &i64) -> i32
+    requires { unsigned_abs x.now < 2 ^ 31 }
+    ensures value { result ≡ x.now }
+    ensures size { unsigned_abs result < 2 ^ 31 }
+{
+    *x as i32
+}
+
+fn brief_quotient(x: &i32, g: &i32) -> i32
+    requires x { unsigned_abs x.now < 2 ^ 31 }
+    requires g { 0 < unsigned_abs g.now }
+    ensures value { result ≡ int_div x.now g.now }
+{
+    *x / *g
+}
+
+fn divided_brief(x: &i64, g: &i64) -> i64
+    requires x { unsigned_abs x.now < 2 ^ 31 }
+    requires g { 0 < unsigned_abs g.now }
+    requires brief { unsigned_abs g.now < 2 ^ 31 }
+    ensures value { result ≡ int_div x.now g.now }
+{
+    i64::from(brief_quotient(&brief(x), &brief(g)))
+}
+
+/// The quotient, towards 0.
+pub fn short_quotient(x: &i64, g: &i64) -> i64
     requires x { unsigned_abs x.now < 2 ^ 63 }
     requires g { 0 < unsigned_abs g.now }
     ensures value { result ≡ int_div x.now g.now }
 {
+    if are_brief(x, g) {
+        return divided_brief(x, g);
+    }
     *x / *g
 }
 
@@ -46,9 +82,27 @@ pub fn divided(x: &i128, g: &i128) -> i128
     *x / *g
 }
 
-fn short_divides(found: &i64, x: &i64) -> bool
+fn brief_divides(found: &i32, x: &i32) -> bool
     ensures { IsTrue result → (pos 0 <ℤ found.now) × (int_rem x.now found.now ≡ pos 0) }
 {
+    *found > 0 && *x % *found == 0
+}
+
+fn divides_brief(found: &i64, x: &i64) -> bool
+    requires found { unsigned_abs found.now < 2 ^ 31 }
+    requires x { unsigned_abs x.now < 2 ^ 31 }
+    ensures { IsTrue result → (pos 0 <ℤ found.now) × (int_rem x.now found.now ≡ pos 0) }
+{
+    brief_divides(&brief(found), &brief(x))
+}
+
+/// Whether a positive number divides another.
+pub fn short_divides(found: &i64, x: &i64) -> bool
+    ensures { IsTrue result → (pos 0 <ℤ found.now) × (int_rem x.now found.now ≡ pos 0) }
+{
+    if are_brief(found, x) {
+        return divides_brief(found, x);
+    }
     *found > 0 && (*x == 0 || *x % *found == 0)
 }
 

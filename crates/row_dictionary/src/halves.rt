@@ -21,6 +21,12 @@ fn above(x: &i128) -> i128
     ensures rounds { IsFloor x.now (pos (2 ^ 62)) result }
     ensures size { unsigned_abs result ≤ 2 ^ 62 }
 {
+    if *x >= 0 && *x < HALF {
+        return 0;
+    }
+    if *x < 0 && *x >= -HALF {
+        return -1;
+    }
     floor_div(*x, HALF)
 }
 

@@ -1,12 +1,14 @@
-ghost use Rattle.std.specs.Prelude.{◌≡◌, ℕ, ◌<◌, ◌*◌, ◌^◌, List, ℤ, ◌-ℤ◌, ◌*ℤ◌, unsigned_abs, All, IsTrue, length, int_div};
+ghost use Rattle.std.specs.Prelude.{◌≡◌, ◌≢◌, ℕ, ◌<◌, ◌*◌, ◌^◌, List, ℤ, pos, ◌-ℤ◌, ◌*ℤ◌, ◌<ℤ◌, unsigned_abs, All, IsTrue, length, int_div, Option, Some};
 ghost use Rattle.std.specs.Int.{◌∣◌};
+ghost use Rattle.integer_laws.specs.Divisors.{IsGcdOf};
 ghost use Rattle.row_pivots.specs.Ends.{Small};
-ghost use Rattle.row_dictionary.specs.Mixing.{mixed, mixed_line, Narrow, IsNarrowMix, IsLowered};
+ghost use Rattle.row_dictionary.specs.Mixing.{mixed, mixed_numbers, mixed_line, IsCommon, Narrow, IsNarrowMix, IsWhole, IsLowered};
 
-use crate::division::{divided, is_factor};
+use crate::division::{divided, is_factor, short, short_divides, short_quotient};
 use crate::number::Mix;
+use seq_num::gcd;
 
-fn is_narrow(x: &i64) -> bool
+pub fn is_narrow(x: &i64) -> bool
     ensures { IsTrue result → Narrow x.now }
 {
     x.unsigned_abs() < 1 << 30
@@ -17,6 +19,13 @@ pub fn are_narrow(numbers: &[i64]) -> bool
     ensures { IsTrue result → All Narrow numbers.now }
 {
     numbers.iter().all(|x| is_narrow(x))
+}
+
+/// Whether 64 bits hold the divisor.
+pub fn has_short_divisor(mix: &Mix) -> bool
+    ensures { IsTrue result → unsigned_abs mix.now.g < 2 ^ 63 }
+{
+    mix.g.unsigned_abs() < 1 << 63
 }
 
 /// Whether what lines are multiplied by is below 2^30 in size.
@@ -32,25 +41,58 @@ fn lowered(x: &i64, g: &i128) -> i64
     ensures is { result ≡ int_div x.now g.now }
     ensures size { Small result }
 {
+    if *x == 0 {
+        return 0;
+    }
+    if i128::from(*x) == *g {
+        return 1;
+    }
     divided(&i128::from(*x), g) as i64
 }
 
-/// What gives the same line without a division, where the divisor divides what both lines are multiplied by.
-pub fn lowest(mix: &Mix) -> Mix
+/// How often the divisor goes into the factor, where it divides it.
+pub fn whole_factor(p: &i64, g: &i128) -> Option<i64>
+    requires p { Small p.now }
+    requires g { 0 < unsigned_abs g.now }
+    ensures { (x : ℤ) → result ≡ Some x → IsWhole p.now g.now x }
+{
+    if !is_factor(g, p) {
+        return None;
+    }
+    Some(lowered(p, g))
+}
+
+/// What gives the same line without a division, where the divisor divides the entry too.
+fn lowest_by(mix: &Mix, p: &i64) -> Mix
+    requires whole { IsWhole mix.now.p mix.now.g p.now }
     requires p { Small mix.now.p }
     requires q { Small mix.now.q }
     requires g { 0 < unsigned_abs mix.now.g }
     ensures { IsLowered mix.now result }
 {
-    if !is_factor(&mix.g, &mix.q) || !is_factor(&mix.g, &mix.p) {
+    if !is_factor(&mix.g, &mix.q) {
         return *mix;
     }
     Mix {
         d: mix.d,
-        p: lowered(&mix.p, &mix.g),
+        p: *p,
         q: lowered(&mix.q, &mix.g),
         g: 1,
         place: mix.place,
+    }
+}
+
+/// What gives the same line without a division, where the divisor divides what both lines are multiplied by.
+pub fn lowest(mix: &Mix, whole: &Option<i64>) -> Mix
+    requires whole { (x : ℤ) → whole.now ≡ Some x → IsWhole mix.now.p mix.now.g x }
+    requires p { Small mix.now.p }
+    requires q { Small mix.now.q }
+    requires g { 0 < unsigned_abs mix.now.g }
+    ensures { IsLowered mix.now result }
+{
+    match whole {
+        None => *mix,
+        Some(p) => lowest_by(mix, p),
     }
 }
 
@@ -116,39 +158,223 @@ fn narrow_number(mix: &Mix, j: usize, z: &i64, y: &i64) -> i64
 }
 
 /// The quotient by the divisor.
-fn narrow_quotient(x: &i64, g: &i128) -> i64
+fn narrow_quotient(x: &i64, g: &i64) -> i64
     requires x { Small x.now }
     requires g { 0 < unsigned_abs g.now }
     ensures { result ≡ int_div x.now g.now }
 {
-    if *g == 1 || *x == 0 {
+    if *g == 1 {
         return *x;
     }
-    divided(&i128::from(*x), g) as i64
+    short_quotient(x, g)
 }
 
 /// The new number at a place.
-fn new_narrow(mix: &Mix, i: usize, z: &i64, y: &i64) -> i64
+fn new_narrow(mix: &Mix, g: &i64, i: usize, z: &i64, y: &i64) -> i64
     requires mix { IsNarrowMix mix.now }
-    requires g { 0 < unsigned_abs mix.now.g }
+    requires some { 0 < unsigned_abs mix.now.g }
+    requires g { g.now ≡ mix.now.g }
     requires z { Narrow z.now }
     requires y { Narrow y.now }
     ensures { result ≡ int_div (mixed mix.now i z.now y.now) mix.now.g }
 {
-    narrow_quotient(&narrow_number(mix, i, z, y), &mix.g)
+    narrow_quotient(&narrow_number(mix, i, z, y), g)
 }
 
-/// The line, pivoted, where all its numbers and all that it is multiplied by are below 2^30 in size.
-pub fn pivot_narrow(line: &mut [i64], by: &[i64], mix: &Mix)
+/// Whether the number at a place stays as it is, where the divisor is the factor: what leaves has none there.
+fn stays(mix: &Mix, i: usize, y: &i64) -> bool
+    ensures { IsTrue result → (y.now ≡ pos 0) × (i ≢ mix.now.place) }
+{
+    *y == 0 && i != mix.place
+}
+
+/// Whether the new number at a place is 0 as the old one: neither line has one there.
+fn is_empty(mix: &Mix, i: usize, z: &i64, y: &i64) -> bool
+    ensures { IsTrue result → (z.now ≡ pos 0) × (y.now ≡ pos 0) × (i ≢ mix.now.place) }
+{
+    *z == 0 && *y == 0 && i != mix.place
+}
+
+/// Whether all numbers are narrow, and one more.
+fn and_narrow(narrow: bool, x: &i64) -> bool
+    ensures all { IsTrue result → IsTrue narrow }
+    ensures one { IsTrue result → Narrow x.now }
+{
+    narrow && is_narrow(x)
+}
+
+/// The line, pivoted, where the divisor is the factor: what leaves has a number at few places.
+fn pivot_kept(line: &mut [i64], by: &[i64], mix: &Mix, g: &i64) -> bool
     requires mix { IsNarrowMix mix.now }
-    requires g { 0 < unsigned_abs mix.now.g }
+    requires some { 0 < unsigned_abs mix.now.g }
+    requires g { g.now ≡ mix.now.g }
+    requires kept { mix.now.p ≡ mix.now.g }
     requires line { All Narrow line.old }
     requires by { All Narrow by.now }
     requires len { length line.old ≡ length by.now }
     requires place { mix.now.place < length line.old }
-    ensures { line.new ≡ mixed_line mix.now line.old by.now }
+    ensures is { line.new ≡ mixed_line mix.now line.old by.now }
+    ensures narrow { IsTrue result → All Narrow line.new }
 {
+    let mut narrow = true;
     for i in 0..line.len() {
-        line[i] = new_narrow(mix, i, &line[i], &by[i]);
+        if !stays(mix, i, &by[i]) {
+            let x = new_narrow(mix, g, i, &line[i], &by[i]);
+            line[i] = x;
+            narrow = and_narrow(narrow, &x);
+        }
     }
+    narrow
+}
+
+/// The line, pivoted.
+fn pivot_each(line: &mut [i64], by: &[i64], mix: &Mix, g: &i64) -> bool
+    requires mix { IsNarrowMix mix.now }
+    requires some { 0 < unsigned_abs mix.now.g }
+    requires g { g.now ≡ mix.now.g }
+    requires line { All Narrow line.old }
+    requires by { All Narrow by.now }
+    requires len { length line.old ≡ length by.now }
+    requires place { mix.now.place < length line.old }
+    ensures is { line.new ≡ mixed_line mix.now line.old by.now }
+    ensures narrow { IsTrue result → All Narrow line.new }
+{
+    let mut narrow = true;
+    for i in 0..line.len() {
+        if !is_empty(mix, i, &line[i], &by[i]) {
+            let x = new_narrow(mix, g, i, &line[i], &by[i]);
+            line[i] = x;
+            narrow = and_narrow(narrow, &x);
+        }
+    }
+    narrow
+}
+
+/// The line, pivoted, where nothing is divided.
+fn pivot_whole(line: &mut [i64], by: &[i64], mix: &Mix) -> bool
+    requires mix { IsNarrowMix mix.now }
+    requires g { mix.now.g ≡ pos 1 }
+    requires line { All Narrow line.old }
+    requires by { All Narrow by.now }
+    requires len { length line.old ≡ length by.now }
+    requires place { mix.now.place < length line.old }
+    ensures is { line.new ≡ mixed_line mix.now line.old by.now }
+    ensures narrow { IsTrue result → All Narrow line.new }
+{
+    let mut narrow = true;
+    for i in 0..line.len() {
+        let x = narrow_number(mix, i, &line[i], &by[i]);
+        line[i] = x;
+        narrow = and_narrow(narrow, &x);
+    }
+    narrow
+}
+
+/// The line, pivoted, where all its numbers and all that it is multiplied by are below 2^30 in size; and whether its new
+/// numbers are so too.
+pub fn pivot_narrow(line: &mut [i64], by: &[i64], mix: &Mix) -> bool
+    requires mix { IsNarrowMix mix.now }
+    requires g { 0 < unsigned_abs mix.now.g }
+    requires short { unsigned_abs mix.now.g < 2 ^ 63 }
+    requires line { All Narrow line.old }
+    requires by { All Narrow by.now }
+    requires len { length line.old ≡ length by.now }
+    requires place { mix.now.place < length line.old }
+    ensures is { line.new ≡ mixed_line mix.now line.old by.now }
+    ensures narrow { IsTrue result → All Narrow line.new }
+{
+    let g = short(&mix.g);
+    if mix.p == g {
+        return pivot_kept(line, by, mix, &g);
+    }
+    if g == 1 {
+        return pivot_whole(line, by, mix);
+    }
+    pivot_each(line, by, mix, &g)
+}
+
+/// Whether the number at a place is a multiple of what was found, since what leaves has none there.
+fn is_multiple(found: &i64, mix: &Mix, i: usize, y: &i64) -> bool
+    ensures { IsTrue result → (y.now ≡ pos 0) × (mix.now.p ≡ found.now) × (i ≢ mix.now.place) × (pos 0 <ℤ found.now) }
+{
+    *y == 0 && mix.p == *found && i != mix.place && *found > 0
+}
+
+/// Whether the number at a place is 0, since neither line has one there.
+fn is_nothing(found: &i64, mix: &Mix, i: usize, z: &i64, y: &i64) -> bool
+    ensures { IsTrue result → (y.now ≡ pos 0) × (z.now ≡ pos 0) × (i ≢ mix.now.place) × (pos 0 <ℤ found.now) }
+{
+    *y == 0 && *z == 0 && i != mix.place && *found > 0
+}
+
+fn short_gcd(a: &i64, b: &i64) -> i64
+    requires a { unsigned_abs a.now < 2 ^ 63 }
+    requires b { unsigned_abs b.now < 2 ^ 63 }
+    ensures is { IsGcdOf a.now b.now result }
+    ensures size { unsigned_abs result < 2 ^ 63 }
+{
+    gcd(i128::from(*a), i128::from(*b)) as i64
+}
+
+/// The greatest common divisor of two numbers, of which the first mostly divides the second.
+fn short_common(found: &i64, x: &i64) -> i64
+    requires found { unsigned_abs found.now < 2 ^ 63 }
+    requires x { unsigned_abs x.now < 2 ^ 63 }
+    ensures is { IsGcdOf found.now x.now result }
+    ensures size { unsigned_abs result < 2 ^ 63 }
+{
+    if short_divides(found, x) {
+        return *found;
+    }
+    short_gcd(found, x)
+}
+
+/// The common divisor of a number and the one at a place, before it is divided.
+fn narrow_divisor_with(found: &i64, mix: &Mix, i: usize, z: &i64, y: &i64) -> i64
+    requires mix { IsNarrowMix mix.now }
+    requires z { Narrow z.now }
+    requires y { Narrow y.now }
+    requires found { unsigned_abs found.now < 2 ^ 63 }
+    ensures is { IsGcdOf found.now (mixed mix.now i z.now y.now) result }
+    ensures size { unsigned_abs result < 2 ^ 63 }
+{
+    if is_nothing(found, mix, i, z, y) {
+        return *found;
+    }
+    if is_multiple(found, mix, i, y) {
+        return *found;
+    }
+    short_common(found, &narrow_number(mix, i, z, y))
+}
+
+/// Whether all numbers of the line are surely multiples of what was found.
+fn is_settled(found: &i64, mix: &Mix) -> bool
+    ensures q { IsTrue result → unsigned_abs found.now ∣ unsigned_abs mix.now.q }
+    ensures p { IsTrue result → unsigned_abs found.now ∣ unsigned_abs mix.now.p }
+{
+    if *found == 1 {
+        return true;
+    }
+    mix.q == 0 && mix.p == *found
+}
+
+/// The common divisor of a number and all numbers of a line, before they are divided, where all are below 2^30 in size.
+pub fn narrow_divisor(start: &i64, line: &[i64], by: &[i64], mix: &Mix) -> i64
+    requires mix { IsNarrowMix mix.now }
+    requires start { unsigned_abs start.now < 2 ^ 63 }
+    requires line { All Narrow line.now }
+    requires by { All Narrow by.now }
+    requires len { length line.now ≡ length by.now }
+    requires place { mix.now.place < length line.now }
+    ensures divisors { IsCommon start.now (mixed_numbers mix.now line.now by.now) result }
+    ensures size { unsigned_abs result < 2 ^ 63 }
+{
+    let mut found = *start;
+    for i in 0..line.len() {
+        if is_settled(&found, mix) {
+            return found;
+        }
+        found = narrow_divisor_with(&found, mix, i, &line[i], &by[i]);
+    }
+    found
 }

@@ -1,12 +1,4 @@
-use Rattle.std.proofs.Common.{rules, ◌∙◌, SFits, w64, to_z-of_z, subst, sym}
-use Rattle.row_pivots.specs.Ends.{Small}
-use Rattle.row_dictionary.proofs.Lowering.{lowered_is}
 use Rattle.row_dictionary.proofs.narrow.lowest.Goals as goal
 
-pub returns : goal.returns
-returns c =
-    let m = c.args.mix.now in
-    let d : SFits w64 m.d = search rules in
-    let p : SFits w64 c.lowered.result = search rules in
-    let q : SFits w64 c.lowered-2.result = search rules in
-    lowered_is m _ _ _ (to_z-of_z d) (to_z-of_z p ∙ c.lowered.ensures.is) (to_z-of_z q ∙ c.lowered-2.ensures.is) (subst Small (sym (to_z-of_z p)) c.lowered.ensures.size) (subst Small (sym (to_z-of_z q)) c.lowered-2.ensures.size) c.requires.g (c.is_factor.ensures c.if-not-is_factor.false) (c.is_factor-else-not-is_factor.ensures c.if-not-is_factor-2.false)
+pub lowest_by-requires-clause-whole : goal.lowest_by-requires-clause-whole
+lowest_by-requires-clause-whole c = c.requires.whole c.in-Some.p c.in-Some.is

@@ -1,7 +1,0 @@
-use Rattle.std.proofs.Common.{◌≡◌}
-use Rattle.integer_laws.specs.InPlace.{rewritten}
-use Rattle.row_dictionary.specs.Mixing.{mixed_line}
-use Rattle.row_dictionary.proofs.narrow.pivot_narrow.Given as goal
-
-abbrev pub invariant-loop-i : goal.invariant-loop-i
-invariant-loop-i l = l.line ≡ rewritten l.i (mixed_line l.mix l.fn.line l.by) l.fn.line
