@@ -1,13 +1,16 @@
--- A row less.
+-- A row less, and a pivot undone.
 --
 --   last_slack t                 the number of the last row's slack
 --   dividing g                   the step that divides a line by g, where the line of what leaves is empty
 --   Reduced d lines e fewer      a table, divided by the greatest number that divides all of its numbers
 --   IsOfSome t                   it is of some rows
-use Rattle.std.specs.Prelude.{◌≡◌, ℕ, ◌-◌, List, ℤ, pos, map, int_div}
+--   Fits t                       all of its numbers are small
+--   CameFrom rows before now out into    of the same rows, and `into` stands in the basis in place of `out`
+--   CameBy now out into          it came so from some table
+use Rattle.std.specs.Prelude.{◌≡◌, ℕ, ◌-◌, List, ℤ, pos, map, int_div, Contains}
 use Rattle.row_pivots.specs.Turns.{quotients}
 use Rattle.row_dictionary.specs.Pushing.{next_slack}
-use Rattle.row_dictionary.specs.Seen.{Seen, IsOf}
+use Rattle.row_dictionary.specs.Seen.{Seen, IsOf, HasShape, swapped}
 use Rattle.row_dictionary.specs.Turns.{IsDivisor}
 use Rattle.row_dictionary.specs.declared.table.Step.{Step}
 use Rattle.seq_model.specs.declared.row.Row.{Row}
@@ -26,3 +29,19 @@ pub record Reduced (d : ℤ) (lines : List (List ℤ)) (e : ℤ) (fewer : List (
 
 abbrev pub IsOfSome : Seen → Type 0
 IsOfSome t = (rows : List Row) × IsOf rows t
+
+abbrev pub Fits : Seen → Type 0
+Fits t = HasShape t.d t.basic t.free t.lines
+
+pub record CameFrom (rows : List Row) (before now : Seen) (out into : ℕ) : Type 0 where
+  pub was : IsOf rows before
+  pub fits : Fits before
+  pub is : IsOf rows now
+  pub out_of : Contains before.basic out
+  pub into_of : Contains before.free into
+  pub vars : now.vars ≡ before.vars
+  pub basic : now.basic ≡ swapped before.basic out into
+  pub free : now.free ≡ swapped before.free into out
+
+abbrev pub CameBy : Seen → ℕ → ℕ → Type 0
+CameBy now out into = (rows : List Row) × (before : Seen) × CameFrom rows before now out into

@@ -29,8 +29,8 @@ pivot-requires-clause-entry c =
     let p = (enters_at t.vars c.requires.0 t.d t.basic t.free t.lines c.requires.1 c.in-Some.out c.in-Some-entering.into at.member e).positive in
     λ z. absurd (omega (arith, ints, p, z))
 
-pub returns-in-Ok : goal.returns-in-Ok
-returns-in-Ok c = λ rows h. (
+pub returns-in-Ok-clause-turned : goal.returns-in-Ok-clause-turned
+returns-in-Ok-clause-turned c = λ rows h. (
   sym c.leaving.ensures ∙ c.in-Some.is,
   sym c.entering.ensures ∙ c.in-Some-entering.is,
   c.pivot.ensures.vars,
@@ -39,8 +39,8 @@ returns-in-Ok c = λ rows h. (
   λ y w. c.in-Ok.ensures.fine rows y h w,
 )
 
-pub returns-in-Err : goal.returns-in-Err
-returns-in-Err c = λ rows h. (
+pub returns-in-Err-clause-turned : goal.returns-in-Err-clause-turned
+returns-in-Err-clause-turned c = λ rows h. (
   c.in-Err.ensures.unchanged,
   sym c.leaving.ensures ∙ c.in-Some.is,
   sym c.entering.ensures ∙ c.in-Some-entering.is,
