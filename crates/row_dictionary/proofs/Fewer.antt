@@ -132,8 +132,11 @@ one_less_placed : (places bs free : List ℕ) (b n r : ℕ) → IsPlaced places 
 one_less_placed places bs free b n r p e h is = by (cases_lt r (length bs))
   where
     before : (in_r : r < length bs) → Stays places free n r (set bs r b) × Comes places free n r (set bs r b)
-    before in_r = (λ no. absurd (no (let l = length-set bs r b in omega (arith, l, in_r))), λ k moved m.
-        subst (λ t. (t < n) × IsPlaced (set (take n places) t r) (set bs r b) free) (sym (m ∙ get_or-set_same bs r b 0 in_r)) (low, other_comes places bs free b r n p e in_r here))
+    before in_r = (
+      λ no. absurd (no (let l = length-set bs r b in omega (arith, l, in_r))),
+      λ k moved m.
+          subst (λ t. (t < n) × IsPlaced (set (take n places) t r) (set bs r b) free) (sym (m ∙ get_or-set_same bs r b 0 in_r)) (low, other_comes places bs free b r n p e in_r here),
+    )
       where
         here : get_or bs r 0 ≡ n
         here = sym (get_or-front bs b r in_r) ∙ is

@@ -2,6 +2,9 @@
 --
 --   Warmth                    the number of variables, the steps, and the table that they give
 --   rows_of steps             the rows of the steps, in their order
+--   standing vars steps       where the variables stand after the steps: the slack of a row behind the basic ones, and at a
+--                             pivot two have changed places
+--   Gives vars steps table    what the steps give from a system without rows: the table with the variables there, of their rows
 --   nothing vars              without a step: the table of no rows
 --   Adds old new row added    what has become of the row
 --   ArePivots steps           each of them is a pivot
@@ -9,13 +12,14 @@
 --   SomeEndsWide vars rows start     the walk from a start ends before a wide basis
 --   Repairs old new warmed    the walk from the old basis, and what its end shows of the rows
 --   IsZeroPoint vars warmed   it is the point of which all coordinates are 0, over 1
-use Rattle.std.specs.Prelude.{◌≡◌, ℕ, suc, ◌<◌, ◌≤◌, ◌^◌, List, [], ◌∷◌, ◌++◌, ℤ, pos, ◌≤ℤ◌, ◌<ℤ◌, All, length, map}
+use Rattle.std.specs.Prelude.{◌≡◌, ℕ, suc, ◌+◌, ◌<◌, ◌≤◌, ◌^◌, List, [], ◌∷◌, ◌++◌, ℤ, pos, ◌≤ℤ◌, ◌<ℤ◌, All, length, map}
+use Rattle.std.specs.List.{range_with_len}
 use Rattle.integer_laws.specs.Vectors.{zeros}
 use Rattle.feasible_point.specs.Shortening.{AreShortest}
 use Rattle.feasible_point.specs.Walked.{WalksFrom}
 use Rattle.row_dictionary.specs.Pushing.{line_of, with_row}
 use Rattle.row_dictionary.specs.Scans.{start}
-use Rattle.row_dictionary.specs.Seen.{Seen, basis_of}
+use Rattle.row_dictionary.specs.Seen.{Seen, Standing, IsOf, basis_of, swapped}
 use Rattle.row_pivots.specs.Ends.{Small}
 use Rattle.seq_model.specs.Dictionaries.{Rises}
 use Rattle.seq_model.specs.Systems.{MeetsRows, Contradiction}
@@ -41,6 +45,23 @@ row_of (Steps.Pivot leaving entering) = []
 abbrev pub rows_of : List Step → List Row
 rows_of [] = []
 rows_of (step ∷ steps) = row_of step ++ rows_of steps
+
+abbrev pub after_step : ℕ → Standing → Step → Standing
+after_step vars s (Steps.Row row) = record { basic = s.basic ++ (vars + length s.basic) ∷ []; free = s.free }
+after_step vars s (Steps.Pivot leaving entering) = record { basic = swapped s.basic leaving entering; free = swapped s.free entering leaving }
+
+abbrev pub after_steps : ℕ → Standing → List Step → Standing
+after_steps vars s [] = s
+after_steps vars s (step ∷ steps) = after_steps vars (after_step vars s step) steps
+
+abbrev pub standing : ℕ → List Step → Standing
+standing vars steps = after_steps vars (record { basic = []; free = range_with_len 0 vars }) steps
+
+pub record Gives (vars : ℕ) (steps : List Step) (table : Seen) : Type 0 where
+  pub vars_are : table.vars ≡ vars
+  pub basic : table.basic ≡ (standing vars steps).basic
+  pub free : table.free ≡ (standing vars steps).free
+  pub is_of : IsOf (rows_of steps) table
 
 abbrev pub nothing : ℕ → Warmth
 nothing vars = record { vars = vars; steps = []; table = start vars [] }
