@@ -22,7 +22,7 @@ after_steps-more vars s (x ∷ steps) step = after_steps-more vars (after_step v
 pub standing-more : (vars : ℕ) (steps : List Step) (step : Step) → standing vars (steps ++ step ∷ []) ≡ after_step vars (standing vars steps) step
 standing-more vars steps step = after_steps-more vars (record { basic = []; free = range_with_len 0 vars }) steps step
 
-joined_none : {A : Type 0} (xs : List A) → xs ++ [] ≡ xs
+pub joined_none : {A : Type 0} (xs : List A) → xs ++ [] ≡ xs
 joined_none [] = refl
 joined_none (x ∷ xs) = ap (λ t. x ∷ t) (joined_none xs)
 
