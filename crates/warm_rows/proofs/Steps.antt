@@ -11,7 +11,7 @@ use Rattle.row_dictionary.specs.Seen.{Seen, Standing, IsOf, swapped}
 use Rattle.row_dictionary.specs.Shrinking.{Fits}
 use Rattle.seq_model.specs.declared.row.Row.{Row}
 use Rattle.warm_rows.specs.Keeping.{Goes, WasHeld, Kept}
-use Rattle.warm_rows.specs.Warming.{row_of, rows_of, after_step, after_steps, standing, Gives}
+use Rattle.warm_rows.specs.Warming.{Warmth, row_of, rows_of, after_step, after_steps, standing, Gives}
 use Rattle.warm_rows.specs.declared.step.Step.{Step}
 use Rattle.warm_rows.specs.declared.step.Step.TheVariants as Steps
 
@@ -124,3 +124,9 @@ kept_less vars steps t u x k g = record {
   held = λ front step back e. k.held front step (back ++ x ∷ []) (ap (λ (l : List Step). l ++ x ∷ []) e ∙ sym (joined_twice front (step ∷ back) (x ∷ [])));
   count = let c = k.count in let l = ap length (rows_of-append steps (x ∷ [])) ∙ long_joined (rows_of steps) (rows_of (x ∷ [])) in omega (arith, c, l);
 }
+
+abbrev pub same_as : Warmth → Warmth → Type 0
+same_as w v = w ≡ v
+
+pub same_warmth : (vars : ℕ) {steps more : List Step} {t u : Seen} → steps ≡ more → t ≡ u → same_as (record { vars = vars; steps = steps; table = t }) (record { vars = vars; steps = more; table = u })
+same_warmth vars e f = λ i. record { vars = vars; steps = e i; table = f i }

@@ -48,8 +48,8 @@ pub fn walk(dictionary: &mut Dictionary, steps: &mut Vec<Step>) -> Result<Turn, 
 {
     loop {
         steps.reserve(1)?;
-        let turn = dictionary.turn_any();
         dictionary.fits();
+        let turn = dictionary.turn_any();
         if !note(steps, &turn) {
             return Ok(turn);
         }

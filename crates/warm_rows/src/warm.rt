@@ -104,12 +104,12 @@ impl Warm {
         ensures unchanged { OnErr result (self.new ≡ self.old) }
     {
         self.steps.reserve(1)?;
-        let step = Step::Row(copy_of(alloc, row)?);
+        let copy = copy_of(alloc, row)?;
         self.dictionary.fits();
         match self.dictionary.push(alloc, row)? {
             Pushed::TooWide => Ok(Added::Cold),
             Pushed::Held => {
-                push_step(&mut self.steps, step);
+                push_step(&mut self.steps, Step::Row(copy));
                 Ok(Added::Held)
             }
         }
