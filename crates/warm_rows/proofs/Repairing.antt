@@ -1,5 +1,5 @@
 -- What the end of a walk from any basis says of the rows.
-use Rattle.std.proofs.Common.{◌≡◌, ℕ, suc, ◌+◌, ◌<◌, ◌≤◌, ◌^◌, List, [], ◌∷◌, ◌++◌, length, map, All, refl, ap, ap₂, sym, subst, ◌∙◌, arith, ℤ, pos, ◌≤ℤ◌, ◌<ℤ◌, Some, None, inl, inr}
+use Rattle.std.proofs.Common.{◌≡◌, ℕ, suc, ◌+◌, ◌<◌, ◌≤◌, List, [], ◌∷◌, ◌++◌, length, All, refl, ap, sym, subst, ◌∙◌, arith, pos, ◌≤ℤ◌, Some, None}
 use Rattle.std.proofs.lemmas.List.{length-map}
 use Rattle.std.proofs.lemmas.List.FromFn.{length-range_with_len}
 use Rattle.std.proofs.lemmas.Option.{none-some}
@@ -12,9 +12,8 @@ use Rattle.feasible_point.specs.Laws.Shorter.{Certifies}
 use Rattle.feasible_point.specs.Laws.Solving.{certifies_of, some_of}
 use Rattle.feasible_point.specs.Laws.Walking.{pivots_to, walk_wide, never_wide, stops_point, stops_none, upto_is, meets}
 use Rattle.feasible_point.specs.Laws.Zero.{start_stays, zero_answer}
-use Rattle.feasible_point.specs.Walked.{Walks, WalksFrom, Ended, GoesOn, NothingToLeave}
+use Rattle.feasible_point.specs.Walked.{Walks, WalksFrom, Ended, NothingToLeave}
 use Rattle.row_pivots.specs.Ends.{NoEntry}
-use Rattle.row_pivots.specs.Laws.OneTable.{one_held}
 use Rattle.row_pivots.specs.Laws.Slacks.{slack_table}
 use Rattle.row_pivots.specs.Tables.{AreRowsOf, line_or, rising}
 use Rattle.row_dictionary.specs.Laws.Found.{LeavesAt, EntersAt, leaves_at, none_leaves, enters_at, none_enters}
@@ -27,7 +26,7 @@ use Rattle.seq_model.specs.Systems.{MeetsRows}
 use Rattle.seq_model.specs.Walks.{constant, Stops}
 use Rattle.seq_model.specs.declared.row.Row.{Row}
 use Rattle.warm_rows.specs.Answering.{Finds, HasSmallDen}
-use Rattle.warm_rows.specs.Warming.{Warmth, Repairs, SomeEndsWide, IsZeroPoint, IsRowStep, rows_of, after_step, after_steps, standing, Gives}
+use Rattle.warm_rows.specs.Warming.{Warmth, Repairs, SomeEndsWide, IsZeroPoint, IsRowStep, rows_of, after_steps, standing, Gives}
 use Rattle.warm_rows.specs.declared.step.Step.{Step}
 use Rattle.warm_rows.specs.declared.step.Step.TheVariants as Steps
 use Rattle.warm_rows.specs.declared.step.Warmed.{Warmed}
@@ -120,11 +119,11 @@ rows_alone vars free n (Steps.Pivot out into ∷ steps) a = absurd (a 0 (Steps.P
 
 started : (vars : ℕ) (steps : List Step) (t : Seen) → Gives vars steps t → All IsRowStep steps → t ≡ start vars (rows_of steps)
 started vars steps t g a = one_given vars steps t (start vars (rows_of steps)) g (record {
-      vars_are = refl;
-      basic = ap (range_with_len vars) (plain (length (rows_of steps))) ∙ sym (ap (λ (s : Standing). s.basic) stood);
-      free = sym (ap (λ (s : Standing). s.free) stood);
-      is_of = slack_table vars (rows_of steps) (subst (λ v. AreRowsOf v (rows_of steps)) g.vars_are g.is_of.rows_are);
-    })
+  vars_are = refl;
+  basic = ap (range_with_len vars) (plain (length (rows_of steps))) ∙ sym (ap (λ (s : Standing). s.basic) stood);
+  free = sym (ap (λ (s : Standing). s.free) stood);
+  is_of = slack_table vars (rows_of steps) (subst (λ v. AreRowsOf v (rows_of steps)) g.vars_are g.is_of.rows_are);
+})
   where
     plain : (n : ℕ) → n ≡ 0 + n
     plain n = omega arith

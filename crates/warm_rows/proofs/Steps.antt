@@ -1,7 +1,7 @@
 -- One step more: where variables stand, the rows, and what is kept.
-use Rattle.std.proofs.Common.{◌≡◌, ℕ, zero, suc, ◌+◌, ◌<◌, ◌^◌, List, [], ◌∷◌, ◌++◌, length, drop, get_or, refl, ap, ap₂, sym, subst, ◌∙◌, arith, ℤ, pos, ◌⊎◌, inl, inr}
+use Rattle.std.proofs.Common.{◌≡◌, ℕ, ◌+◌, ◌<◌, ◌^◌, List, [], ◌∷◌, ◌++◌, length, drop, get_or, refl, ap, ap₂, sym, subst, ◌∙◌, arith, ◌⊎◌, inl, inr}
 use Rattle.std.specs.List.{range_with_len}
-use Rattle.row_pivots.specs.Laws.Grown.{grown, length-more}
+use Rattle.row_pivots.specs.Laws.Grown.{grown}
 use Rattle.row_pivots.specs.Laws.OneTable.{one_held}
 use Rattle.row_pivots.specs.Laws.Slacks.{slack_table}
 use Rattle.row_pivots.specs.Tables.{Holds}

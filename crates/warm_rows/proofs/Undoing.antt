@@ -1,5 +1,5 @@
 -- The last step, undone.
-use Rattle.std.proofs.Common.{◌≡◌, ℕ, suc, ◌+◌, ◌-◌, ◌<◌, List, [], ◌∷◌, ◌++◌, length, refl, ap, ap₂, sym, subst, ◌∙◌, arith, ℤ, inl, inr, Contains}
+use Rattle.std.proofs.Common.{◌≡◌, ℕ, suc, ◌+◌, ◌-◌, List, [], ◌∷◌, ◌++◌, length, refl, ap, ap₂, sym, subst, ◌∙◌, arith, inl, Contains}
 use Rattle.std.specs.List.{swap_remove}
 use Rattle.integer_laws.specs.Laws.Members.{Contains-from_in, In-append_right}
 use Rattle.row_pivots.specs.Laws.Grown.{at_end, length-more}
@@ -9,11 +9,11 @@ use Rattle.row_dictionary.specs.Laws.Found.{place_unique}
 use Rattle.row_dictionary.specs.Seen.{Seen, Standing, IsOf, swapped}
 use Rattle.row_dictionary.specs.Shrinking.{CameFrom, last_slack}
 use Rattle.seq_model.specs.declared.row.Row.{Row}
-use Rattle.warm_rows.specs.Keeping.{Goes, WasHeld, Kept}
+use Rattle.warm_rows.specs.Keeping.{WasHeld}
 use Rattle.warm_rows.specs.Warming.{rows_of, standing, Gives}
 use Rattle.warm_rows.specs.declared.step.Step.{Step}
 use Rattle.warm_rows.specs.declared.step.Step.TheVariants as Steps
-use Rattle.warm_rows.proofs.Steps.{standing-more, rows_of-pivot, rows_of-row, kept_less}
+use Rattle.warm_rows.proofs.Steps.{standing-more, rows_of-pivot, rows_of-row}
 
 -- ---- a row
 basic_is : (vars : ℕ) (steps : List Step) (row : Row) (u : Seen) → Gives vars (steps ++ Steps.Row row ∷ []) u → u.basic ≡ (standing vars steps).basic ++ (vars + length (standing vars steps).basic) ∷ []

@@ -1,11 +1,11 @@
 -- A walk that notes its pivots, turn by turn.
-use Rattle.std.proofs.Common.{◌≡◌, ℕ, suc, ◌+◌, ◌<◌, ◌^◌, List, [], ◌∷◌, ◌++◌, length, All, Contains, refl, ap, sym, subst, ◌∙◌, arith, None, inl, inr}
+use Rattle.std.proofs.Common.{◌≡◌, suc, ◌<◌, List, [], ◌∷◌, ◌++◌, length, Contains, refl, ap, sym, subst, ◌∙◌, arith, None}
 use Rattle.std.proofs.lemmas.List.Elements.{All-nil, All-push}
 use Rattle.integer_laws.specs.Laws.Members.{Contains-from_in}
-use Rattle.feasible_point.specs.Laws.Solving.{ReachedAt, GoneOn, gone_on, stays, ended_here, walks_to}
+use Rattle.feasible_point.specs.Laws.Solving.{gone_on, stays, ended_here, walks_to}
 use Rattle.feasible_point.specs.Laws.Walking.{steps_of, reached_here}
 use Rattle.feasible_point.specs.Laws.Zero.{no_turn}
-use Rattle.feasible_point.specs.Walked.{GoesOn, Ended, NothingToLeave}
+use Rattle.feasible_point.specs.Walked.{GoesOn, Ended}
 use Rattle.row_pivots.specs.Tables.{line_or}
 use Rattle.row_dictionary.specs.Laws.Found.{LeavesAt, EntersAt, leaves_at, enters_at}
 use Rattle.row_dictionary.specs.Scans.{least_leaving}
@@ -17,7 +17,7 @@ use Rattle.row_dictionary.specs.declared.turn.Turn.TheVariants as Turns
 use Rattle.seq_model.specs.declared.row.Row.{Row}
 use Rattle.warm_rows.specs.Keeping.{Kept}
 use Rattle.warm_rows.specs.Walking.{noted, OnWalk, AtEnd}
-use Rattle.warm_rows.specs.Warming.{rows_of, ArePivots, IsPivot, Gives}
+use Rattle.warm_rows.specs.Warming.{rows_of, ArePivots, IsPivot}
 use Rattle.warm_rows.specs.declared.step.Step.{Step}
 use Rattle.warm_rows.specs.declared.step.Step.TheVariants as Steps
 use Rattle.warm_rows.proofs.Steps.{joined_none, rows_of-append, rows_of-pivot, gives_pivot, kept_more}

@@ -2,7 +2,7 @@
 --
 --   Finds t turn warmed          a point, the multipliers of a contradiction, or that the next basis is wide
 --   HasSmallDen warmed           where it is a point, its denominator is at least 1 and below 2^62
-use Rattle.std.specs.Prelude.{◌≡◌, ◌<◌, ◌^◌, List, ℤ, pos, ◌≤ℤ◌, ◌<ℤ◌, All}
+use Rattle.std.specs.Prelude.{◌≡◌, ◌^◌, pos, ◌≤ℤ◌, ◌<ℤ◌, All}
 use Rattle.feasible_point.specs.Answering.{mults_of}
 use Rattle.feasible_point.specs.Shortening.{Shortened, IsTaking}
 use Rattle.feasible_point.specs.Walked.{nums_upto}

@@ -3,7 +3,7 @@
 --   noted steps turn                the steps, and the pivot that the turn made
 --   OnWalk first table steps new    a walk from the first table is at the new one, and its pivots are noted behind the steps
 --   AtEnd first table steps new turn    it has ended there, and the turn says why
-use Rattle.std.specs.Prelude.{◌≡◌, ℕ, List, [], ◌∷◌, ◌++◌, None}
+use Rattle.std.specs.Prelude.{◌≡◌, List, [], ◌∷◌, ◌++◌}
 use Rattle.feasible_point.specs.Laws.Solving.{ReachedAt}
 use Rattle.feasible_point.specs.Walked.{Ended, NothingToLeave, WalksFrom}
 use Rattle.row_dictionary.specs.Seen.{Seen, basis_of}

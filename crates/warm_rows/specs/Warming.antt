@@ -12,7 +12,7 @@
 --   SomeEndsWide vars rows start     the walk from a start ends before a wide basis
 --   Repairs old new warmed    the walk from the old basis, and what its end shows of the rows
 --   IsZeroPoint vars warmed   it is the point of which all coordinates are 0, over 1
-use Rattle.std.specs.Prelude.{◌≡◌, ℕ, suc, ◌+◌, ◌<◌, ◌≤◌, ◌^◌, List, [], ◌∷◌, ◌++◌, ℤ, pos, ◌≤ℤ◌, ◌<ℤ◌, All, length, map}
+use Rattle.std.specs.Prelude.{◌≡◌, ℕ, suc, ◌+◌, ◌<◌, ◌≤◌, ◌^◌, List, [], ◌∷◌, ◌++◌, pos, ◌≤ℤ◌, ◌<ℤ◌, All, length, map}
 use Rattle.std.specs.List.{range_with_len}
 use Rattle.integer_laws.specs.Vectors.{zeros}
 use Rattle.feasible_point.specs.Shortening.{AreShortest}

@@ -1,6 +1,4 @@
 use Rattle.std.proofs.Common.{rules, ◌≡◌, ◌∙◌, IsTrue, List, sym, ap, subst}
-use Rattle.feasible_point.specs.Walked.{GoesOn}
-use Rattle.row_dictionary.specs.Turning.{Turned}
 use Rattle.warm_rows.specs.Walking.{OnWalk, noted}
 use Rattle.warm_rows.specs.Warming.{rows_of}
 use Rattle.warm_rows.specs.declared.step.Step.{Step}

@@ -1,4 +1,3 @@
-use Rattle.std.proofs.Common.{◌≡◌}
 use Rattle.feasible_point.specs.Laws.Walking.{steps_of}
 use Rattle.warm_rows.specs.Walking.{OnWalk}
 use Rattle.warm_rows.specs.Warming.{rows_of}

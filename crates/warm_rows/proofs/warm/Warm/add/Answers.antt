@@ -3,9 +3,8 @@ use Rattle.row_pivots.specs.Ends.{Small}
 use Rattle.row_pivots.specs.Laws.Grown.{length-more}
 use Rattle.row_dictionary.specs.Pushing.{line_of, with_row}
 use Rattle.row_dictionary.specs.Seen.{Seen}
-use Rattle.seq_model.specs.declared.row.Row.{Row}
 use Rattle.warm_rows.specs.Keeping.{Kept}
-use Rattle.warm_rows.specs.Warming.{Warmth, Gives, rows_of}
+use Rattle.warm_rows.specs.Warming.{Warmth, rows_of}
 use Rattle.warm_rows.specs.declared.step.Step.{Step}
 use Rattle.warm_rows.specs.declared.step.Step.TheVariants as Steps
 use Rattle.warm_rows.proofs.Steps.{same_warmth, gives_row, rows_of-row, kept_more}
@@ -21,7 +20,7 @@ invariant_of-self-in-Held c =
     let steps_are : c.self.inside.steps.items ≡ c.args.self.now.steps = ap (λ (w : Warmth). w.steps) c.self.view_is in
     let long : length c.args.row.now.a ≡ c.self.inside.vars = c.requires.long ∙ sym table_vars in
     let few : c.self.inside.vars + length (rows_of c.self.inside.steps.items) + 1 < 2 ^ 32 =
-        subst (λ v. v + length (rows_of c.self.inside.steps.items) + 1 < 2 ^ 32) (sym table_vars) (subst (λ (l : List Step). c.args.self.now.vars + length (rows_of l) + 1 < 2 ^ 32) (sym steps_are) c.requires.count) in
+    subst (λ v. v + length (rows_of c.self.inside.steps.items) + 1 < 2 ^ 32) (sym table_vars) (subst (λ (l : List Step). c.args.self.now.vars + length (rows_of l) + 1 < 2 ^ 32) (sym steps_are) c.requires.count) in
     let more : length (rows_of (c.self.inside.steps.items ++ Steps.Row c.args.row.now ∷ [])) ≡ suc (length (rows_of c.self.inside.steps.items)) = ap length (rows_of-row s.steps.items row) ∙ length-more (rows_of s.steps.items) row in
     let gives = gives_row s.vars s.steps.items s.dictionary row c.self.invariant.gives long in
     let kept = kept_more s.vars s.steps.items s.dictionary (with_row s.dictionary row) (Steps.Row row) c.self.invariant c.fits.ensures tt gives (omega (arith, few, more)) in

@@ -1,6 +1,5 @@
-use Rattle.std.proofs.Common.{◌≡◌, ◌∙◌, pos, All, List, sym, ap, subst}
+use Rattle.std.proofs.Common.{◌∙◌, pos, All, subst}
 use Rattle.integer_laws.specs.Vectors.{zeros}
-use Rattle.row_dictionary.specs.Seen.{Seen}
 use Rattle.seq_model.specs.Systems.{MeetsRows}
 use Rattle.warm_rows.specs.Warming.{Warmth, IsRowStep, IsZeroPoint, Repairs, rows_of}
 use Rattle.warm_rows.proofs.Repairing.{repairs, some_mults_of, zero_found}

@@ -1,6 +1,5 @@
 use Rattle.std.proofs.Common.{◌≡◌, ◌∙◌, ◌++◌, ◌∷◌, [], List, sym, ap, subst}
-use Rattle.row_dictionary.specs.Seen.{Seen}
-use Rattle.warm_rows.specs.Keeping.{Kept, WasHeld}
+use Rattle.warm_rows.specs.Keeping.{Kept}
 use Rattle.warm_rows.specs.Warming.{Gives, rows_of}
 use Rattle.warm_rows.specs.declared.step.Step.{Step}
 use Rattle.warm_rows.specs.declared.step.Step.TheVariants as Steps
