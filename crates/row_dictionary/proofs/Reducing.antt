@@ -79,13 +79,6 @@ same_numbers g ys zs l none = list_same (step_numbers (dividing g) ys zs) zs (lo
         by (inl h) = sym (number_is m zs ys j (pos 0) l h) ∙ number j
         by (inr h) = past_the_end (step_numbers (dividing g) ys zs) j (let k = long_numbers m zs ys l in omega (arith, k, h)) ∙ sym (past_the_end zs j h)
 
-all_same : (g : ℤ) (ys : List ℤ) (lines : List (List ℤ)) → AreLines (length ys) lines → IsEmpty ys → map (step_numbers (dividing g) ys) lines ≡ lines
-all_same g ys lines a none = map_each (step_numbers (dividing g) ys) (λ l. l) lines (λ l i. same_numbers g ys l (All-in (IsLine (length ys)) lines l a i).0 none) ∙ alone lines
-  where
-    alone : (lines : List (List ℤ)) → map (λ l. l) lines ≡ lines
-    alone [] = refl
-    alone (l ∷ lines) = ap (λ t. l ∷ t) (alone lines)
-
 divided_lines : (g : ℤ) (ys : List ℤ) (lines : List (List ℤ)) → AreLines (length ys) lines → IsEmpty ys → map (step_line (dividing g) ys) lines ≡ map (quotients g) lines
 divided_lines g ys lines a none = map_each (step_line (dividing g) ys) (quotients g) lines (λ l i. ap (quotients g) (same_numbers g ys l (All-in (IsLine (length ys)) lines l a i).0 none))
 
@@ -119,12 +112,15 @@ divided_are s g ys lines e a y = ap (λ (t : Step). map (step_line t ys) lines) 
 pub reduced_by : (d e : ℤ) (g : ℤ) (lines fewer : List (List ℤ)) → IsDivisor d lines g → e ≡ int_div d g → fewer ≡ map (quotients g) lines → Reduced d lines e fewer
 reduced_by d e g lines fewer h f l = record { g = g; by = h; d_is = f; lines_are = l }
 
-pub divisor : (d : ℤ) (s : Step) (ys : List ℤ) (lines : List (List ℤ)) (found : ℤ) → pos 1 ≤ℤ d → s ≡ dividing (pos 1) → AreLines (length ys) lines → ys ≡ unit_line (length ys) 0 (pos 0) → AreCommon d (map (step_numbers s ys) lines) found
-    → IsDivisor d lines (pos (unsigned_abs found))
-divisor d s ys lines found p e a y common =
-    divided_by d lines found (pos (unsigned_abs found)) (λ z. absurd (omega (arith, ints, p, z)))
-    (subst (λ (t : List (List ℤ)). AreCommon d t found) (ap (λ (t : Step). map (step_numbers t ys) lines) e ∙ all_same (pos 1) ys lines a (subst IsEmpty (sym y) (unit_empty (length ys)))) common)
-    refl (λ h. omega (arith, ints)) (λ h. absurd (omega (arith, ints, p, h)))
+pub divisor : (d : ℤ) (lines : List (List ℤ)) (found : ℤ) → pos 1 ≤ℤ d → AreCommon d lines found → IsDivisor d lines (pos (unsigned_abs found))
+divisor d lines found p common = divided_by d lines found (pos (unsigned_abs found)) (λ z. absurd (omega (arith, ints, p, z))) common refl (λ h. omega (arith, ints)) (λ h. absurd (omega (arith, ints, p, h)))
+
+pub all_alone : (lines : List (List ℤ)) → map (λ (l : List ℤ). l) lines ≡ lines
+all_alone [] = refl
+all_alone (l ∷ lines) = ap (λ t. l ∷ t) (all_alone lines)
+
+pub numbers_small : (n : ℕ) (lines : List (List ℤ)) → AreLines n lines → All (All Small) lines
+numbers_small n lines a = λ k d h. (a k d h).1
 
 by_one : (x : ℤ) → int_div x (pos 1) ≡ x
 by_one x = ap (λ t. int_div t (pos 1)) (once x) ∙ times_quotient (pos 1) x (λ z. absurd (omega (arith, ints, z)))

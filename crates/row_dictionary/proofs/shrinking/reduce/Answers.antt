@@ -1,9 +1,8 @@
-use Rattle.std.proofs.Common.{rules, ◌≡◌, ◌<◌, ℤ, List, pos, sym, ap, subst, ◌∙◌, map, length, SFits, to_z, of_z, to_z-of_z, w64, unsigned_abs, int_div}
+use Rattle.std.proofs.Common.{rules, ◌≡◌, pos, sym, ap, subst, ◌∙◌, length, SFits, to_z, of_z, to_z-of_z, w64, int_div}
 use Rattle.std.specs.Int.{w128}
-use Rattle.row_pivots.specs.Turns.{unit_line, quotients}
-use Rattle.row_dictionary.specs.Shrinking.{dividing, Reduced}
-use Rattle.row_dictionary.specs.Tables.{AreLines, step_line}
-use Rattle.row_dictionary.specs.Turns.{IsDivisor}
+use Rattle.row_pivots.specs.Turns.{unit_line}
+use Rattle.row_dictionary.specs.Shrinking.{dividing}
+use Rattle.row_dictionary.specs.Tables.{AreLines}
 use Rattle.row_dictionary.proofs.Reducing.{empty_long, reduced_by, divided_fit, divided_are, stays_by_one, whole_already, quotient_small}
 use Rattle.row_dictionary.proofs.shrinking.reduce.Goals as goal
 
