@@ -1,5 +1,5 @@
 -- The way back from a pivot: what entered has an entry for what left, and the basis that it comes back to is wide nowhere.
-use Rattle.std.proofs.Common.{◌≡◌, ◌≢◌, ℕ, zero, suc, ◌+◌, ◌<◌, ◌≤◌, List, [], ◌∷◌, length, map, get_or, set, refl, ap, ap₂, sym, subst, ◌∙◌, arith, ℤ, pos, ◌+ℤ◌, ◌*ℤ◌, ◌⊎◌, inl, inr, Bool, true, false, length-set, Contains}
+use Rattle.std.proofs.Common.{◌≡◌, ◌≢◌, ℕ, zero, suc, ◌+◌, ◌<◌, List, [], ◌∷◌, length, map, get_or, set, refl, ap, sym, subst, ◌∙◌, arith, ℤ, pos, ◌+ℤ◌, ◌*ℤ◌, ◌⊎◌, inl, inr, Bool, true, false, length-set, Contains}
 use Rattle.std.proofs.lemmas.Bool.Decides.{nat_tests}
 use Rattle.std.proofs.lemmas.Int.{ints}
 use Rattle.std.proofs.lemmas.List.{length-map, get_or-set_same, get_or-set_other}
@@ -8,17 +8,15 @@ use Rattle.integer_laws.specs.Laws.Members.{In-map, In-from_contains, Contains-f
 use Rattle.integer_laws.specs.Laws.Ring.{expand}
 use Rattle.integer_laws.specs.Laws.Vectors.{dot-plus, dot-scale}
 use Rattle.integer_laws.specs.Members.{In}
-use Rattle.integer_laws.specs.Vectors.{dot, plus, scale}
+use Rattle.integer_laws.specs.Vectors.{dot, scale}
 use Rattle.row_laws.specs.Laws.Independence.{vectors_of, only_zeros, few_free, is_equal}
 use Rattle.row_laws.specs.Laws.Kernel.{Kernel, kernel, cancel_factor}
-use Rattle.row_laws.specs.Laws.Pivots.{below, free_climbs}
-use Rattle.row_pivots.specs.Laws.Bland.{not_basic}
 use Rattle.row_pivots.specs.Laws.Measure.{place_is}
 use Rattle.row_pivots.specs.Laws.OneTable.{one_held, swapped_back}
 use Rattle.row_pivots.specs.Laws.Pivoting.{Line, get_or-map, get_or-In}
-use Rattle.row_pivots.specs.Laws.Sorted.{held, rising_members, same_free, free_member, says_or}
-use Rattle.row_pivots.specs.Laws.Turned.{fresh_set, set_members}
-use Rattle.row_pivots.specs.Tables.{Holds, Held, Fresh, rising, place_of, line_or, entry_of}
+use Rattle.row_pivots.specs.Laws.Sorted.{held, same_free, free_member, says_or}
+use Rattle.row_pivots.specs.Laws.Turned.{set_members}
+use Rattle.row_pivots.specs.Tables.{Holds, Fresh, rising, place_of, line_or, entry_of}
 use Rattle.row_dictionary.specs.Laws.Found.{place_unique}
 use Rattle.row_dictionary.specs.Laws.Placing.{entry_placed}
 use Rattle.row_dictionary.specs.Seen.{Seen, IsOf, entry_at, swapped}

@@ -1,19 +1,19 @@
 -- The noted places once the variable of the last number is gone, and the last basic one has come to its place.
-use Rattle.std.proofs.Common.{◌≡◌, ◌≢◌, ℕ, zero, suc, ◌+◌, ◌-◌, ◌<◌, ◌≤◌, List, [], ◌∷◌, ◌++◌, length, get_or, set, take, refl, ap, sym, subst, ◌∙◌, arith, ◌⊎◌, inl, inr, length-set, Contains}
+use Rattle.std.proofs.Common.{◌≡◌, ◌≢◌, ℕ, suc, ◌+◌, ◌-◌, ◌<◌, ◌≤◌, List, [], ◌∷◌, ◌++◌, length, get_or, set, take, refl, ap, sym, subst, ◌∙◌, arith, ◌⊎◌, inl, inr, length-set, Contains}
 use Rattle.std.proofs.lemmas.Bool.{cases_lt}
 use Rattle.std.proofs.lemmas.List.{get_or-set_same, get_or-set_other, get_or-take, length-take}
 use Rattle.std.specs.List.{swap_remove}
-use Rattle.integer_laws.specs.Laws.Members.{In-from_contains, In-append_left, In-append_right, In-append_cases}
+use Rattle.integer_laws.specs.Laws.Members.{In-from_contains, In-append_left, In-append_right}
 use Rattle.integer_laws.specs.Members.{In}
 use Rattle.row_laws.specs.Laws.OneForm.{any_default}
 use Rattle.row_pivots.specs.Laws.Grown.{at_end, length-more}
 use Rattle.row_pivots.specs.Laws.Measure.{place_is}
 use Rattle.row_pivots.specs.Laws.Pivoting.{get_or-In}
-use Rattle.row_pivots.specs.Laws.Shrunk.{Ending, ending, remove_last, remove_other, fresh_front, get_or-front}
+use Rattle.row_pivots.specs.Laws.Shrunk.{ending, remove_last, remove_other, fresh_front, get_or-front}
 use Rattle.row_pivots.specs.Laws.Turned.{fresh_set, set_members}
 use Rattle.row_pivots.specs.Tables.{Fresh, place_of}
 use Rattle.row_dictionary.specs.Laws.Found.{place_unique}
-use Rattle.row_dictionary.specs.Seen.{ArePlaces, IsPlaced}
+use Rattle.row_dictionary.specs.Seen.{IsPlaced}
 
 front_place : (bs : List ℕ) (b y : ℕ) → Fresh (bs ++ b ∷ []) → In y bs → place_of y (bs ++ b ∷ []) ≡ place_of y bs
 front_place bs b y f i =

@@ -1,5 +1,5 @@
 -- A table without its last row is the table of the other rows.
-use Rattle.std.proofs.Common.{◌≡◌, ℕ, suc, ◌+◌, ◌-◌, ◌<◌, List, [], ◌∷◌, ◌++◌, length, map, get_or, refl, ap, sym, subst, ◌∙◌, arith, ℤ, int_div, Contains}
+use Rattle.std.proofs.Common.{◌≡◌, ℕ, suc, ◌+◌, ◌-◌, ◌<◌, List, [], ◌∷◌, ◌++◌, length, get_or, ap, sym, subst, ◌∙◌, arith, ℤ, int_div, Contains}
 use Rattle.std.specs.List.{swap_remove}
 use Rattle.integer_laws.specs.Laws.Members.{In-from_contains}
 use Rattle.integer_laws.specs.Members.{In}
@@ -8,7 +8,6 @@ use Rattle.row_pivots.specs.Laws.Measure.{place_is}
 use Rattle.row_pivots.specs.Laws.Shrunk.{Removed, removed, shrunk}
 use Rattle.row_pivots.specs.Laws.Sorted.{says_long}
 use Rattle.row_pivots.specs.Tables.{Holds, place_of}
-use Rattle.row_pivots.specs.Turns.{quotients}
 use Rattle.row_dictionary.specs.Shrinking.{Reduced}
 use Rattle.seq_model.specs.declared.row.Row.{Row}
 

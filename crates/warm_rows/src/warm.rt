@@ -54,6 +54,25 @@ impl Warm {
         })
     }
 
+    pub fn vars(&self) -> u32
+        ensures { result ≡ self.now.vars }
+    {
+        self.vars
+    }
+
+    /// How many rows there are.
+    pub fn count(&self) -> u32
+        ensures { result ≡ length (rows_of self.now.steps) }
+    {
+        self.dictionary.count()
+    }
+
+    pub fn dictionary(&self) -> &Dictionary
+        ensures { result.now ≡ self.now.table }
+    {
+        &self.dictionary
+    }
+
     /// How many steps there are now.
     pub fn mark(&self) -> Mark
         ensures { result.steps ≡ length self.now.steps }

@@ -1,4 +1,3 @@
-use Rattle.std.proofs.Common.{◌≡◌}
 use Rattle.row_dictionary.proofs.Backwards.{back_members, back_some, back_fits, back_is}
 use Rattle.row_dictionary.proofs.dictionary.Dictionary.pivot_back.Goals as goal
 

@@ -1,9 +1,9 @@
-use Rattle.std.proofs.Common.{rules, ◌≡◌, ◌∙◌, ◌+◌, ◌-◌, ◌<◌, arith, sym, ap, ap₂, subst, length, get_or, set, take, Contains, ℕ, List}
+use Rattle.std.proofs.Common.{rules, ◌≡◌, ◌∙◌, ◌+◌, ◌-◌, ◌<◌, arith, sym, ap, subst, length, get_or, set, take, Contains, ℕ, List}
 use Rattle.std.specs.List.{swap_remove}
 use Rattle.std.specs.Vec.{vec_len}
 use Rattle.row_laws.specs.Laws.OneForm.{any_default}
 use Rattle.row_dictionary.specs.Seen.{Standing, IsPlaced}
-use Rattle.row_dictionary.proofs.Fewer.{LastAt, last_at, less_placed, any_removed, taken_long}
+use Rattle.row_dictionary.proofs.Fewer.{last_at, less_placed, any_removed, taken_long}
 use Rattle.row_pivots.specs.Tables.{place_of}
 use Rattle.row_dictionary.proofs.variables.Variables.shrink.Goals as goal
 
