@@ -4,6 +4,7 @@ use std::alloc::Global;
 use warm_rows::Warm;
 
 const FIRST: [(i64, [i64; 2]); 2] = [(3, [-2, 1]), (-4, [3, 2])];
+
 const THEN: [(i64, [i64; 2]); 2] = [(-5, [-1, 2]), (7, [2, -3])];
 
 // The rows, added and repaired.

@@ -94,13 +94,7 @@ static WARMED: [(usize, &[(i64, [i64; 2])], usize, Found, usize); 12] = [
         Found::Point { den: 3, x: 0, y: 9 },
         8,
     ),
-    (
-        0,
-        &[(-1, [BIG, 0]), (-2, [1, 3])],
-        2,
-        Found::Cold,
-        2,
-    ),
+    (0, &[(-1, [BIG, 0]), (-2, [1, 3])], 2, Found::Cold, 2),
     (
         1,
         &[],

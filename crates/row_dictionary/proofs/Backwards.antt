@@ -30,7 +30,7 @@ use Rattle.seq_model.specs.declared.row.Row.{Row}
 differs : (x y : ℕ) → (x ≡ y → ⊥) → nat_eq x y ≡ false
 differs x y n = grind (arith, nat_tests, n)
 
-same_or_not : (x y : ℕ) → (x ≡ y) ⊎ (x ≡ y → ⊥)
+pub same_or_not : (x y : ℕ) → (x ≡ y) ⊎ (x ≡ y → ⊥)
 same_or_not x y = by (nat_eq x y) refl
   where
     by : (b : Bool) → nat_eq x y ≡ b → (x ≡ y) ⊎ (x ≡ y → ⊥)

@@ -77,7 +77,7 @@ common_more s xs i found x g h c e is k = (there, back)
         let last = All-in (λ x. k ∣ unsigned_abs x) (take i xs ++ get_or xs i (pos 0) ∷ []) (get_or xs i (pos 0)) all (In-append_right (take i xs) (get_or xs i (pos 0) ∷ []) (get_or xs i (pos 0)) (inl refl)) in
         (divides_gcd found x g k is).1 ((c k).1 (p.0, front), subst (λ t. k ∣ unsigned_abs t) (sym e) last)
 
-pub one_divides : (k n : ℕ) → k ≡ 1 → k ∣ n
+one_divides : (k n : ℕ) → k ≡ 1 → k ∣ n
 one_divides k n e = subst (λ t. t ∣ n) (sym e) (subst (λ t. 1 ∣ t) (times n) (dvd-mul_right 1 n))
   where
     times : (n : ℕ) → 1 * n ≡ n
