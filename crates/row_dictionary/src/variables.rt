@@ -1,6 +1,7 @@
-ghost use Rattle.std.specs.Prelude.{◌≡◌, ◌↔◌, ℕ, ◌+◌, ◌-◌, ◌<◌, ◌^◌, ◌++◌, ◌∷◌, List, [], IsTrue, Contains, IfOk, OnOk, OnErr, length, slice_index_or, slice_set};
+ghost use Rattle.std.specs.Prelude.{◌≡◌, ◌↔◌, ℕ, ◌+◌, ◌<◌, ◌^◌, ◌++◌, ◌∷◌, List, [], IsTrue, Contains, IfOk, OnOk, OnErr, length, slice_index_or, slice_set};
 ghost use Rattle.std.specs.List.{range_with_len, swap_remove};
 ghost use Rattle.row_dictionary.specs.Seen.{ArePlaces};
+ghost use Rattle.row_dictionary.specs.Shrinking.{last_of};
 ghost use Rattle.row_pivots.specs.Tables.{place_of};
 
 use crate::making::range;
@@ -110,8 +111,8 @@ impl Variables {
 
     /// The variable of the last number, which is basic, goes from its place, and the last basic one comes there.
     pub fn shrink(&mut self) -> usize
-        requires { Contains self.old.basic (length self.old.basic + length self.old.free - 1) }
-        ensures place { result ≡ place_of (length self.old.basic + length self.old.free - 1) self.old.basic }
+        requires { Contains self.old.basic (last_of self.old) }
+        ensures place { result ≡ place_of (last_of self.old) self.old.basic }
         ensures inside { result < length self.old.basic }
         ensures basic { self.new.basic ≡ swap_remove self.old.basic result 0 }
         ensures free { self.new.free ≡ self.old.free }
