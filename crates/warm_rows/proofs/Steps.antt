@@ -125,8 +125,5 @@ kept_less vars steps t u x k g = record {
   count = let c = k.count in let l = ap length (rows_of-append steps (x ∷ [])) ∙ long_joined (rows_of steps) (rows_of (x ∷ [])) in omega (arith, c, l);
 }
 
-abbrev pub same_as : Warmth → Warmth → Type 0
-same_as w v = w ≡ v
-
-pub same_warmth : (vars : ℕ) {steps more : List Step} {t u : Seen} → steps ≡ more → t ≡ u → same_as (record { vars = vars; steps = steps; table = t }) (record { vars = vars; steps = more; table = u })
-same_warmth vars e f = λ i. record { vars = vars; steps = e i; table = f i }
+pub same_warmth : (w v : Warmth) → w.vars ≡ v.vars → w.steps ≡ v.steps → w.table ≡ v.table → w ≡ v
+same_warmth w v e f g = λ i. record { vars = e i; steps = f i; table = g i }

@@ -1,4 +1,4 @@
-use Rattle.std.proofs.Common.{rules, ◌≡◌, ◌∙◌, suc, ◌+◌, ◌<◌, ◌^◌, ◌++◌, ◌∷◌, [], List, All, length, arith, sym, ap, subst}
+use Rattle.std.proofs.Common.{rules, ◌≡◌, ◌∙◌, suc, ◌+◌, ◌<◌, ◌^◌, ◌++◌, ◌∷◌, [], List, All, length, arith, refl, sym, ap, subst}
 use Rattle.row_pivots.specs.Ends.{Small}
 use Rattle.row_pivots.specs.Laws.Grown.{length-more}
 use Rattle.row_dictionary.specs.Pushing.{line_of, with_row}
@@ -30,6 +30,6 @@ pub returns-in-TooWide-clause-is : goal.returns-in-TooWide-clause-is
 returns-in-TooWide-clause-is c =
     let table : c.push.new.self ≡ c.self.inside.dictionary = search rules in
     let wide : All Small (line_of c.self.inside.dictionary c.args.row.now) → ⊥ = search rules in
-    let steps : c.reserve.new.self.items ≡ c.self.inside.steps.items = c.reserve.ensures.items in
-    let same : (record { vars = c.self.inside.vars; steps = c.reserve.new.self.items; table = c.push.new.self }) ≡ c.args.self.now = same_warmth c.self.inside.vars steps table ∙ c.self.view_is in
-    (subst (λ (w : Warmth). All Small (line_of w.table c.args.row.now) → ⊥) c.self.view_is wide, same)
+    let old : Warmth = record { vars = c.self.inside.vars; steps = c.self.inside.steps.items; table = c.self.inside.dictionary } in
+    let new : Warmth = record { vars = c.self.inside.vars; steps = c.reserve.new.self.items; table = c.push.new.self } in
+    (subst (λ (w : Warmth). All Small (line_of w.table c.args.row.now) → ⊥) c.self.view_is wide, same_warmth new old refl c.reserve.ensures.items table ∙ c.self.view_is)
