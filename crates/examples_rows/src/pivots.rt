@@ -1,5 +1,5 @@
 use crate::rows::rows_of;
-use row_dictionary::{Dictionary, are_rows_of, are_small_rows};
+use row_dictionary::{Dictionary, Pushed, are_rows_of, are_small_rows};
 use std::alloc::Global;
 
 const BIG: i64 = 1 << 61;
@@ -114,4 +114,28 @@ fn pivoted_twice(alloc: Global) -> Option<(i64, [i64; 4])> {
 #[test]
 fn two_pivots_leave_no_old_denominator(rt: HostRuntime) {
     assert!(rt; pivoted_twice(rt.alloc()) == Some((3, [2, -1, -1, 2])));
+}
+
+// The constant of the row's slack; then, once the row is gone again, the denominator and whether the variable 0 is basic.
+fn pushed_and_popped(alloc: Global, row: (i64, [i64; 2])) -> Option<(i64, i64, bool)> {
+    let Ok(rows) = rows_of(alloc, &[row]) else {
+        return None;
+    };
+    if rows.len() != 1 || !are_rows_of(2, &rows) || !are_small_rows(&rows) {
+        return None;
+    }
+    let Ok(mut dictionary) = Dictionary::of(alloc, 2, &[]) else {
+        return None;
+    };
+    let Ok(Pushed::Held) = dictionary.push(alloc, &rows[0]) else {
+        return None;
+    };
+    let constant = dictionary.constant(2);
+    dictionary.pop();
+    Some((constant, dictionary.den(), dictionary.is_basic(0)))
+}
+
+#[test]
+fn a_row_comes_and_goes(rt: HostRuntime) {
+    assert!(rt; pushed_and_popped(rt.alloc(), (3, [-1, 0])) == Some((3, 1, false)));
 }

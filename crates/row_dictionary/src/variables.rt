@@ -1,6 +1,7 @@
 ghost use Rattle.std.specs.Prelude.{◌≡◌, ◌↔◌, ℕ, ◌+◌, ◌<◌, ◌^◌, ◌++◌, ◌∷◌, List, [], IsTrue, Contains, IfOk, OnOk, OnErr, length, slice_index_or, slice_set};
 ghost use Rattle.std.specs.List.{range_with_len, swap_remove};
 ghost use Rattle.row_dictionary.specs.Seen.{ArePlaces};
+ghost use Rattle.row_dictionary.specs.Shrinking.{last_of};
 ghost use Rattle.row_pivots.specs.Tables.{place_of};
 
 use crate::making::range;
@@ -106,6 +107,25 @@ impl Variables {
         self.places.push(self.basic.len())?;
         self.basic.push(next as u32)?;
         Ok(())
+    }
+
+    /// The variable of the last number, which is basic, goes from its place, and the last basic one comes there.
+    pub fn shrink(&mut self) -> usize
+        requires { Contains self.old.basic (last_of self.old) }
+        ensures place { result ≡ place_of (last_of self.old) self.old.basic }
+        ensures inside { result < length self.old.basic }
+        ensures basic { self.new.basic ≡ swap_remove self.old.basic result 0 }
+        ensures free { self.new.free ≡ self.old.free }
+    {
+        let last = self.places.len() - 1;
+        let at = self.places[last];
+        self.places.truncate(last);
+        self.basic.swap_remove(at);
+        if at < self.basic.len() {
+            let moved = self.basic[at];
+            self.places[moved as usize] = at;
+        }
+        at
     }
 }
 

@@ -102,7 +102,7 @@ contradicts_at rows t h out e = subst (λ n. Contradiction rows (mults t.vars (w
     none : NoEntry t.free (line_or out t.basic t.lines)
     none = none_enters t.vars rows t.d t.basic t.free t.lines h out at.member e.1.2
 
-certifies_of : (rows : List Row) (t : Seen) → IsOf rows t → (out : ℕ) → Ended rows t (Turns.Contradiction out) → (list : List Mult) → All IsTaking (mults_of t out) → Shortened (mults_of t out) list → Certifies rows t.vars list
+pub certifies_of : (rows : List Row) (t : Seen) → IsOf rows t → (out : ℕ) → Ended rows t (Turns.Contradiction out) → (list : List Mult) → All IsTaking (mults_of t out) → Shortened (mults_of t out) list → Certifies rows t.vars list
 certifies_of rows t h out e list k s =
     certifies rows t.vars (mults_of t out) list (contradicts_at rows t h out e)
     (subst (λ n. Rises (length rows) (map (λ (m : Mult). m.row) (mults t.vars w n))) (sym h.many) (rising_mults t.vars w (length rows)))

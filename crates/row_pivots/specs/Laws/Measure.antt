@@ -63,7 +63,7 @@ line_divides g (x ∷ xs) k = by (line_divides (gcd_is g (unsigned_abs x)).0 xs 
         back : ((k ∣ line_content (gcd_is g (unsigned_abs x)).0 xs) ↔ ((k ∣ (gcd_is g (unsigned_abs x)).0) × All (λ x. k ∣ unsigned_abs x) xs)) → (k ∣ g) × All (λ x. k ∣ unsigned_abs x) (x ∷ xs) → k ∣ line_content (gcd_is g (unsigned_abs x)).0 xs
         back more p = more.1 (G.2 k p.0 (All-head (λ x. k ∣ unsigned_abs x) x xs p.1), All-tail (λ x. k ∣ unsigned_abs x) x xs p.1)
 
-content_divides : (g : ℕ) (lines : List (List ℤ)) (k : ℕ) → (k ∣ content_of g lines) ↔ ((k ∣ g) × All (λ l. All (λ x. k ∣ unsigned_abs x) l) lines)
+pub content_divides : (g : ℕ) (lines : List (List ℤ)) (k : ℕ) → (k ∣ content_of g lines) ↔ ((k ∣ g) × All (λ l. All (λ x. k ∣ unsigned_abs x) l) lines)
 unfolding content_of
 content_divides g [] k = (λ h. (h, All-nil (λ l. All (λ x. k ∣ unsigned_abs x) l)), λ p. p.0)
 content_divides g (l ∷ lines) k = by (content_divides (line_content g l) lines k)

@@ -24,17 +24,17 @@ pub record Removed (vars : ℕ) (rows : List Row) (d : ℤ) (free basic : List �
   pub many : suc (length left) ≡ length basic
 
 -- ---- the last of a list
-record Ending {A : Type 0} (xs : List A) : Type 0 where
-  front : List A
-  last : A
-  is : xs ≡ front ++ last ∷ []
+pub record Ending {A : Type 0} (xs : List A) : Type 0 where
+  pub front : List A
+  pub last : A
+  pub is : xs ≡ front ++ last ∷ []
 
-ending : {A : Type 0} (xs : List A) → 0 < length xs → Ending xs
+pub ending : {A : Type 0} (xs : List A) → 0 < length xs → Ending xs
 ending [] h = absurd (omega (arith, h))
 ending (x ∷ []) h = record { front = []; last = x; is = refl }
 ending (x ∷ y ∷ ys) h = let e = ending (y ∷ ys) (omega arith) in record { front = x ∷ e.front; last = e.last; is = ap (λ t. x ∷ t) e.is }
 
-take_front : {A : Type 0} (xs : List A) (x : A) → take (length xs) (xs ++ x ∷ []) ≡ xs
+pub take_front : {A : Type 0} (xs : List A) (x : A) → take (length xs) (xs ++ x ∷ []) ≡ xs
 take_front [] x = refl
 take_front (y ∷ xs) x = ap (λ t. y ∷ t) (take_front xs x)
 
@@ -56,20 +56,20 @@ all_but_one : {A : Type 0} (xs : List A) (x : A) → length (xs ++ x ∷ []) - 1
 all_but_one xs x = let n = length-more xs x in omega (arith, n)
 
 -- what is left where the last one goes, and where another one does
-remove_last : {A : Type 0} (xs : List A) (x d : A) → swap_remove (xs ++ x ∷ []) (length xs) d ≡ xs
+pub remove_last : {A : Type 0} (xs : List A) (x d : A) → swap_remove (xs ++ x ∷ []) (length xs) d ≡ xs
 remove_last xs x d =
     ap (λ n. take n (set (xs ++ x ∷ []) (length xs) (get_or (xs ++ x ∷ []) n d))) (all_but_one xs x)
     ∙ ap (λ y. take (length xs) (set (xs ++ x ∷ []) (length xs) y)) (at_end xs x d)
     ∙ ap (take (length xs)) (set_end xs x) ∙ take_front xs x
 
-remove_other : {A : Type 0} (xs : List A) (x d : A) (r : ℕ) → r < length xs → swap_remove (xs ++ x ∷ []) r d ≡ set xs r x
+pub remove_other : {A : Type 0} (xs : List A) (x d : A) (r : ℕ) → r < length xs → swap_remove (xs ++ x ∷ []) r d ≡ set xs r x
 remove_other xs x d r h =
     ap (λ n. take n (set (xs ++ x ∷ []) r (get_or (xs ++ x ∷ []) n d))) (all_but_one xs x)
     ∙ ap (λ y. take (length xs) (set (xs ++ x ∷ []) r y)) (at_end xs x d)
     ∙ ap (take (length xs)) (set_front xs x x r h)
     ∙ ap (λ n. take n (set xs r x ++ x ∷ [])) (sym (length-put xs r x)) ∙ take_front (set xs r x) x
 
-fresh_front : (xs : List ℕ) (x : ℕ) → Fresh (xs ++ x ∷ []) → Fresh xs × (In x xs → ⊥)
+pub fresh_front : (xs : List ℕ) (x : ℕ) → Fresh (xs ++ x ∷ []) → Fresh xs × (In x xs → ⊥)
 fresh_front [] x f = (tt, λ i. i)
 fresh_front (y ∷ xs) x f = let k = fresh_front xs x f.1 in ((λ i. f.0 (In-append_left xs (x ∷ []) y i), k.0), by k.1)
   where
@@ -83,7 +83,7 @@ says_front vars rows d free [] b (k ∷ ls) l e s = absurd (omega (arith, e))
 says_front vars rows d free (y ∷ bs) b [] l e s = absurd (omega (arith, e))
 says_front vars rows d free (y ∷ bs) b (k ∷ ls) l e s = let h = says_front vars rows d free bs b ls l (omega (arith, e)) s.1 in ((s.0, h.0), h.1)
 
-get_or-front : (xs : List ℕ) (x r : ℕ) → r < length xs → get_or (xs ++ x ∷ []) r 0 ≡ get_or xs r 0
+pub get_or-front : (xs : List ℕ) (x r : ℕ) → r < length xs → get_or (xs ++ x ∷ []) r 0 ≡ get_or xs r 0
 get_or-front [] x r h = absurd (omega (arith, h))
 get_or-front (y ∷ xs) x zero h = refl
 get_or-front (y ∷ xs) x (suc r) h = get_or-front xs x r (omega (arith, h))

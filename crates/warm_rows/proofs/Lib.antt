@@ -1,0 +1,4 @@
+mod Steps
+mod Undoing
+mod Walks
+mod Repairing
