@@ -4,3 +4,4 @@ pub mod Looks
 pub mod Rows
 pub mod Scaled
 pub mod Sites
+pub mod Trails
