@@ -1,5 +1,7 @@
 -- What is kept of a path: one choice entered, taken back, or the steps of a repair more.
-use Rattle.std.proofs.Common.{◌≡◌, ℕ, suc, ◌+◌, ◌-◌, ◌*◌, ◌<◌, ◌≤◌, ◌^◌, List, [], ◌∷◌, ◌++◌, Some, length, get_or, slice_get, map, take, drop, All, Contains, refl, sym, ap, subst, ◌∙◌, arith, append_assoc, append-nil, length-append, inl, inr}
+use Rattle.std.proofs.Common.{◌≡◌, ℕ, suc, ◌+◌, ◌-◌, ◌*◌, ◌<◌, ◌≤◌, ◌^◌, List, [], ◌∷◌, ◌++◌, Some, length, get_or, slice_get, map, take, drop, All, Contains, refl, sym, ap, subst, ◌∙◌, arith, append_assoc, append-nil, length-append, inl, inr, Result, pos}
+use Rattle.std.specs.Prelude.{IfOk}
+use Rattle.integer_laws.specs.Vectors.{zeros}
 use Rattle.std.proofs.lemmas.List.{take-append-drop, take-append-le, take-take, take_at, take_more, length-take, length-take-le, map-append}
 use Rattle.std.proofs.lemmas.List.Elements.{All-nil, All-cons, All-append, All-pop, All-take, Contains-append_left, Contains-get_or}
 use Rattle.std.proofs.lemmas.Option.{slice_get_within, get_or_from_slice_get}
@@ -28,7 +30,7 @@ use Rattle.seq_model.specs.declared.tree.Choice.TheVariants as Choices
 use Rattle.seq_model.specs.declared.tree.Contact.{Contact}
 use Rattle.seq_model.specs.declared.tree.Dir.{Dir}
 use Rattle.seq_model.specs.declared.tree.Mult.{Mult}
-use Rattle.warm_rows.specs.Warming.{ArePivots, GoesOn, IsPivot, IsRowStep, Repairs, Warmth, row_of, rows_of}
+use Rattle.warm_rows.specs.Warming.{ArePivots, GoesOn, IsPivot, IsRowStep, IsZeroPoint, Repairs, Warmth, row_of, rows_of}
 use Rattle.warm_rows.specs.declared.step.Step.{Step}
 use Rattle.warm_rows.specs.declared.step.Step.TheVariants as Steps
 use Rattle.warm_rows.specs.declared.step.Warmed.{Warmed}
@@ -287,12 +289,12 @@ trail_holds job e path t at = record {
     held = at.trail.held ∙ ap orders_of at.choices
 
 -- ---- what two paths share
-pub shared_more : (levels : List Level) (path : List Choice) (k : ℕ) (l : Level) (c : Choice) → k < length levels → k < length path → get_or levels k l ≡ l → get_or path k c ≡ c → l.choice ≡ c
+pub shared_more : (levels : List Level) (path : List Choice) (k : ℕ) (l : Level) (c : Choice) → k < length levels → k < length path → (get_or levels k l).choice ≡ get_or path k c
     → path_of (take k levels) ≡ take k path → path_of (take (k + 1) levels) ≡ take (k + 1) path
 unfolding one
-shared_more levels path k l c here there le ce same is =
-    ap path_of (take_more levels k l here ∙ ap (λ x. take k levels ++ x ∷ []) le) ∙ parts (take k levels) l ∙ ap (λ p. p ++ l.choice ∷ []) is ∙ ap (λ x. take k path ++ x ∷ []) same
-    ∙ sym (take_more path k c there ∙ ap (λ x. take k path ++ x ∷ []) ce)
+shared_more levels path k l c here there same is =
+    ap path_of (take_more levels k l here) ∙ parts (take k levels) (get_or levels k l) ∙ ap (λ p. p ++ (get_or levels k l).choice ∷ []) is ∙ ap (λ x. take k path ++ x ∷ []) same
+    ∙ sym (take_more path k c there)
 
 -- ---- a trail at its start
 pub path_none : (job : Job) → IsPath job []
@@ -365,3 +367,8 @@ repaired_is old new n rows (Warmeds.Contradiction list) vars same r = (
   r.3,
 )
 repaired_is old new n rows Warmeds.Cold vars same r = tt
+
+pub zero_repaired : {E : Type 0} (r : Result Warmed E) (old : Warmth) (n : ℕ) (rows : List Row) → old.vars ≡ n → rows_of old.steps ≡ rows
+    → (MeetsRows (rows_of old.steps) (pos 1) (zeros old.vars) → IfOk r (IsZeroPoint old.vars)) → MeetsRows rows (pos 1) (zeros n) → IfOk r (IsZeroPoint n)
+zero_repaired r old n rows vars same zero meets =
+    subst (λ (v : ℕ). IfOk r (IsZeroPoint v)) vars (zero (subst (λ (v : ℕ). MeetsRows (rows_of old.steps) (pos 1) (zeros v)) (sym vars) (subst (λ (s : List Row). MeetsRows s (pos 1) (zeros n)) (sym same) meets)))

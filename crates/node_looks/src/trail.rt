@@ -110,6 +110,12 @@ fn forget(graph: &mut OrderGraph, orders: &mut usize, choice: &Choice)
     }
 }
 
+fn is_of(level: &Level, choice: &Choice) -> bool
+    ensures { IsTrue result → level.now.choice ≡ choice.now }
+{
+    level.choice == *choice
+}
+
 // How many of the choices that were entered the path begins with.
 fn shared(levels: &[Level], path: &[Choice]) -> usize
     ensures entered { result ≤ length levels.now }
@@ -118,7 +124,7 @@ fn shared(levels: &[Level], path: &[Choice]) -> usize
 {
     let count = levels.len().min(path.len());
     for k in 0..count {
-        if levels[k].choice != path[k] {
+        if !is_of(&levels[k], &path[k]) {
             return k;
         }
     }
