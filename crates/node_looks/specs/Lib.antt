@@ -1,5 +1,6 @@
 pub mod Candidates
 pub mod Held
+pub mod Kept
 pub mod Looks
 pub mod Rows
 pub mod Scaled

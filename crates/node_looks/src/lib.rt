@@ -17,5 +17,5 @@ mod survey;
 mod system;
 mod trail;
 
-pub use looking::Looker;
+pub use looking::{Counts, Looker};
 pub use looks::{Look, Looks};
