@@ -158,18 +158,18 @@ fn look_at_point(
     job: &Job,
     extent: u32,
     path: &[Choice],
-    den: i64,
+    den: &i64,
     nums: &[i64],
 ) -> Result<Look, AllocError>
     requires contacts { AreContacts job.now contacts.now }
     requires low { 1 ≤ extent }
     requires high { extent ≤ job.now.printer.grid }
     requires at { StandsAt job.now extent path.now trail.now }
-    requires meets { MeetsRows (system job.now extent path.now) den nums.now }
+    requires meets { MeetsRows (system job.now extent path.now) den.now nums.now }
     requires many { length nums.now ≡ 2 * length job.now.objects }
-    requires small { den <ℤ pos (2 ^ 62) }
+    requires small { den.now <ℤ pos (2 ^ 62) }
     ensures look { IfOk result (IsLook job.now extent path.now) }
-    ensures zero { path.now ≡ [] → HasZeroPlan job.now extent → den ≡ pos 1 → nums.now ≡ zeros (2 * length job.now.objects)
+    ensures zero { path.now ≡ [] → HasZeroPlan job.now extent → den.now ≡ pos 1 → nums.now ≡ zeros (2 * length job.now.objects)
         → IfOk result (IsZeroLook job.now extent) }
 {
     let table = table_of(path);
@@ -180,7 +180,7 @@ fn look_at_point(
         table: &table,
         contacts,
         room: &trail.room,
-        at: SolvedPoint::new(den, nums),
+        at: SolvedPoint::new(*den, nums),
     };
     look_in_order(alloc, &site, &trail.graph)
 }
@@ -209,7 +209,7 @@ fn look_warm(
     counts.repairs = counts.repairs.saturating_add(1);
     match trail.repair(alloc, job, path)? {
         Warmed::Point { den, nums } => Ok(look_at_point(
-            alloc, contacts, trail, job, extent, path, den, &nums,
+            alloc, contacts, trail, job, extent, path, &den, &nums,
         )?),
         Warmed::Contradiction(mults) => Ok(Look::Close(Node::Bound {
             mults: Items::from_vec(mults),
