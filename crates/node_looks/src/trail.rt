@@ -73,7 +73,12 @@ fn add_all(warm: &mut Warm, alloc: Global, rows: &[Row]) -> Result<bool, NoMemor
 }
 
 // The bounds, if they can be held.
-fn warm_bounds(alloc: Global, job: &Job, extent: u32, rows: &[Row]) -> Result<Option<Warm>, NoMemory>
+fn warm_bounds(
+    alloc: Global,
+    job: &Job,
+    extent: u32,
+    rows: &[Row],
+) -> Result<Option<Warm>, NoMemory>
     requires rows { rows.now ≡ system job.now extent [] }
     requires high { extent ≤ job.now.printer.grid }
     ensures { IfOk result (λ made. IfSome made (λ warm. HasRows warm (2 * length job.now.objects) rows.now)) }
@@ -246,7 +251,14 @@ impl Trail {
         match self.warm.add(alloc, &row)? {
             Added::Cold => Ok(Entered::Missed),
             Added::Held => {
-                self.push(Choice::Side { contact: *contact, dir: *dir }, before, self.room)?;
+                self.push(
+                    Choice::Side {
+                        contact: *contact,
+                        dir: *dir,
+                    },
+                    before,
+                    self.room,
+                )?;
                 self.room.narrow(contact.i, contact.j, dir, row.c);
                 Ok(Entered::Held)
             }
@@ -276,12 +288,7 @@ impl Trail {
     }
 
     /// Goes to this path, from wherever it is, and says what has become of it.
-    pub fn follow(
-        &mut self,
-        alloc: Global,
-        job: &Job,
-        path: &[Choice],
-    ) -> Result<Entered, NoMemory>
+    pub fn follow(&mut self, alloc: Global, job: &Job, path: &[Choice]) -> Result<Entered, NoMemory>
         requires trail { IsTrail job.now self.old }
         requires high { self.old.extent ≤ job.now.printer.grid }
         requires path { IsPath job.now path.now }
