@@ -1,5 +1,7 @@
 use crate::jobs::job_of;
-use refinement_loop::{Decision, decide};
+use node_looks::{Counts, Looker};
+use refinement_loop::{Decision, decide, decide_by};
+use seq_model::{Node, Tree};
 use seq_num::NoMemory;
 use std::alloc::Global;
 use std::process::Abort;
@@ -64,5 +66,50 @@ fn cubes_and_a_cone_are_decided(rt: HostRuntime) -> Result<(), Fail> {
     for row in &DECIDED {
         see_answer(&rt, rt.alloc(), row)?;
     }
+    Ok(())
+}
+
+fn is_cycle(node: &Node) -> bool {
+    match node {
+        Node::Cycle { objects: _ } => true,
+        _ => false,
+    }
+}
+
+// How many nodes had their systems looked at: all but those that a cycle of orders closes.
+fn looked_at(tree: &Tree) -> u64 {
+    let mut count = 0u64;
+    for node in tree.nodes.as_slice() {
+        if !is_cycle(node) {
+            count = count.saturating_add(1);
+        }
+    }
+    count
+}
+
+// Whether the extent is refuted, by one repair for each node whose system was looked at, and by no solve.
+fn is_refuted_warm(alloc: Global, words: &[&str], extent: u32) -> Result<bool, NoMemory> {
+    let Some(job) = job_of(alloc, words)? else {
+        return Ok(false);
+    };
+    if extent < 1 || extent > job.printer.grid {
+        return Ok(false);
+    }
+    let mut looker = Looker::new(alloc, &job)?;
+    let decision = decide_by(alloc, &job, extent, 20_000, &mut looker)?;
+    let asked = looker.counts();
+    match &decision {
+        Decision::Refuted(tree) => Ok(asked
+            == Counts {
+                repairs: looked_at(tree),
+                solves: 0,
+            }),
+        _ => Ok(false),
+    }
+}
+
+#[test]
+fn warm_search(rt: HostRuntime) -> Result<(), Fail> {
+    assert!(rt; is_refuted_warm(rt.alloc(), TWO, 45)?);
     Ok(())
 }

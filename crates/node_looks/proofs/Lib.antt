@@ -8,5 +8,6 @@ pub mod RowLaws
 pub mod Scaling
 pub mod SplitLaws
 pub mod SurveyLaws
+pub mod TrailLaws
 pub mod VisitLaws
 pub mod ZeroLaws

@@ -12,16 +12,21 @@ use search_room::{Room, push, row_constant};
 use seq_model::{Choice, Contact, Job, Row, Spot};
 use std::alloc::{AllocError, Global};
 
-/// The room that the rows of a path leave.
-pub(crate) fn room_of(job: &Job, path: &[Choice], rows: &[Row]) -> Room {
-    let bounds = 2 * job.objects.len();
+/// The room that the bounds leave, the first of these rows.
+pub(crate) fn bounds_room(job: &Job, rows: &[Row]) -> Room {
     let mut room = Room::new();
-    for v in 0..bounds {
+    for v in 0..2 * job.objects.len() {
         if v < rows.len() {
             room.bound(v, rows[v].c);
         }
     }
-    let mut r = bounds;
+    room
+}
+
+/// The room that the rows of a path leave.
+pub(crate) fn room_of(job: &Job, path: &[Choice], rows: &[Row]) -> Room {
+    let mut room = bounds_room(job, rows);
+    let mut r = 2 * job.objects.len();
     for choice in path {
         if let Choice::Side { contact, dir } = choice {
             if r < rows.len() {

@@ -15,6 +15,7 @@ mod site;
 mod splits;
 mod survey;
 mod system;
+mod trail;
 
-pub use looking::Looker;
+pub use looking::{Counts, Looker};
 pub use looks::{Look, Looks};

@@ -2,7 +2,7 @@
 
 ghost use Rattle.std.specs.Prelude.{◌≡◌, ◌<◌, ◌≤◌, [], ◌∷◌, ◌++◌, All, length, drop, take, slice_index_or, IfOk, MatchOption};
 ghost use Rattle.node_looks.specs.Candidates.{IsOpenable, choices_of};
-ghost use Rattle.node_looks.specs.Looks.{IsVisit};
+ghost use Rattle.node_looks.specs.Looks.{IsLook, IsVisit};
 ghost use Rattle.node_looks.specs.Sites.{EarnsPairAt, IsLookAt, IsOnOrEarnedAt, IsSite, MaySplit};
 ghost use Rattle.plan_laws.specs.Looking.{OnPath};
 ghost use Rattle.seq_model.specs.Trees.{IsCycle};
@@ -14,7 +14,7 @@ use crate::advice::visit_of;
 use crate::site::Site;
 use owned_lists::Items;
 use pair_constraints::Kept;
-use seq_model::{Choice, Node};
+use seq_model::{Choice, Job, Node};
 use std::alloc::{AllocError, Global};
 
 /// The numbers below n, rising.
@@ -84,10 +84,16 @@ pub(crate) fn open_contact(alloc: Global, site: &Site, kept: &Kept) -> Result<Lo
 }
 
 /// The leaf of a cycle of orders of the path.
-pub(crate) fn close_cycle(alloc: Global, site: &Site, objects: &[u32]) -> Result<Look, AllocError>
-    requires cycle { IsCycle (OnPath site.now.path.now) objects.now }
+pub(crate) fn close_cycle(
+    alloc: Global,
+    job: &Job,
+    extent: u32,
+    path: &[Choice],
+    objects: &[u32],
+) -> Result<Look, AllocError>
+    requires cycle { IsCycle (OnPath path.now) objects.now }
     requires few { length objects.now ≤ 16 }
-    ensures { IfOk result (IsLookAt site.now) }
+    ensures { IfOk result (IsLook job.now extent path.now) }
 {
     let objects = Vec::from_slice(alloc, objects)?;
     Ok(Look::Close(Node::Cycle {
@@ -133,6 +139,6 @@ pub(crate) fn cycle_look(alloc: Global, site: &Site, objects: &[u32]) -> Result<
 {
     match open_pair(site, objects) {
         Some((a, b)) => order_split(alloc, site, a.min(b), a.max(b)),
-        None => close_cycle(alloc, site, objects),
+        None => close_cycle(alloc, site.job, site.extent, site.path, objects),
     }
 }

@@ -128,8 +128,13 @@ fn row_of_pair(alloc: Global, job: &Job, row: &SideRow) -> Result<Row, AllocErro
     })
 }
 
-// The row of a side.
-fn row_of_side(alloc: Global, job: &Job, contact: &Contact, dir: &Dir) -> Result<Row, AllocError>
+/// The row of a side.
+pub(crate) fn row_of_side(
+    alloc: Global,
+    job: &Job,
+    contact: &Contact,
+    dir: &Dir,
+) -> Result<Row, AllocError>
     requires contact { IsContact job.now contact.now }
     requires side { Side (points_of job.now contact.now) dir.now }
     ensures { (e : ℕ) → IfOk result (λ row. row ≡ Systems.side_row job.now e contact.now dir.now) }

@@ -7,7 +7,7 @@ use Rattle.node_looks.specs.Looks.{ClosesBy}
 use Rattle.seq_model.specs.Systems.{system}
 use Rattle.seq_model.specs.declared.tree.Mult.{Mult}
 use Rattle.seq_model.specs.declared.tree.Node.TheVariants as Nodes
-use Rattle.node_looks.proofs.looking.look_by.Goals as goal
+use Rattle.node_looks.proofs.looking.look_anew.Goals as goal
 
 pub returns-in-Contradiction-clause-look : goal.returns-in-Contradiction-clause-look
 returns-in-Contradiction-clause-look c =
