@@ -48,7 +48,6 @@ pub fn walk(dictionary: &mut Dictionary, steps: &mut Vec<Step>) -> Result<Turn, 
 {
     loop {
         steps.reserve(1)?;
-        dictionary.fits();
         let turn = dictionary.turn_any();
         if !note(steps, &turn) {
             return Ok(turn);

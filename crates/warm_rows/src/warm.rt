@@ -124,7 +124,6 @@ impl Warm {
     {
         self.steps.reserve(1)?;
         let copy = copy_of(alloc, row)?;
-        self.dictionary.fits();
         match self.dictionary.push(alloc, row)? {
             Pushed::TooWide => Ok(Added::Cold),
             Pushed::Held => {

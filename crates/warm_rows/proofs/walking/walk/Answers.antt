@@ -30,6 +30,6 @@ loop-dictionary-preserved c =
     let l = c.loop-dictionary in
     let y : IsTrue c.note.result = search rules in
     let turned = c.turn_any-turn.ensures.turned (rows_of steps) (held_on steps l.steps.items first l.dictionary l.invariant) in
-    let on = goes steps l.steps.items first l.dictionary c.turn_any-turn.new.self c.turn_any-turn.result l.invariant c.fits.ensures turned c.turn_any-turn.ensures.free (c.note.ensures.goes.0 y) in
+    let on = goes steps l.steps.items first l.dictionary c.turn_any-turn.new.self c.turn_any-turn.result l.invariant c.turn_any-turn.ensures.fits turned c.turn_any-turn.ensures.free (c.note.ensures.goes.0 y) in
     let same : c.note.new.steps.items ≡ noted c.loop-dictionary.steps.items c.turn_any-turn.result = c.note.ensures.steps ∙ ap (λ (t : List Step). noted t c.turn_any-turn.result) c.reserve.ensures.items in
     subst (λ (t : List Step). OnWalk c.args.steps.now.items c.args.dictionary.now t c.turn_any-turn.new.self) (sym same) on

@@ -23,7 +23,7 @@ invariant_of-self-in-Held c =
     subst (λ v. v + length (rows_of c.self.inside.steps.items) + 1 < 2 ^ 32) (sym table_vars) (subst (λ (l : List Step). c.args.self.now.vars + length (rows_of l) + 1 < 2 ^ 32) (sym steps_are) c.requires.count) in
     let more : length (rows_of (c.self.inside.steps.items ++ Steps.Row c.args.row.now ∷ [])) ≡ suc (length (rows_of c.self.inside.steps.items)) = ap length (rows_of-row s.steps.items row) ∙ length-more (rows_of s.steps.items) row in
     let gives = gives_row s.vars s.steps.items s.dictionary row c.self.invariant.gives long in
-    let kept = kept_more s.vars s.steps.items s.dictionary (with_row s.dictionary row) (Steps.Row row) c.self.invariant c.fits.ensures tt gives (omega (arith, few, more)) in
+    let kept = kept_more s.vars s.steps.items s.dictionary (with_row s.dictionary row) (Steps.Row row) c.self.invariant c.in_ok-push.ensures.fits tt gives (omega (arith, few, more)) in
     subst (λ (l : List Step). Kept c.self.inside.vars l c.push.new.self) (sym steps) (subst (λ (t : Seen). Kept c.self.inside.vars (c.self.inside.steps.items ++ Steps.Row c.args.row.now ∷ []) t) (sym table) kept)
 
 pub returns-in-TooWide-clause-is : goal.returns-in-TooWide-clause-is
