@@ -1,5 +1,5 @@
 -- The common divisor of a table's lines of variables, one line after the other.
-use Rattle.std.proofs.Common.{◌≡◌, ℕ, zero, suc, ◌+◌, ◌<◌, ◌≤◌, List, [], ◌∷◌, ◌++◌, length, map, get_or, take, take_all, All, refl, sym, subst, ◌∙◌, arith, ℤ, ◌⊎◌, inl, inr, unsigned_abs}
+use Rattle.std.proofs.Common.{◌≡◌, ℕ, ◌+◌, ◌<◌, ◌≤◌, List, [], ◌∷◌, ◌++◌, length, map, get_or, take, take_all, All, refl, sym, subst, ◌∙◌, arith, ℤ, ◌⊎◌, inl, inr, unsigned_abs}
 use Rattle.std.proofs.lemmas.Bool.{cases_lt}
 use Rattle.std.proofs.lemmas.List.{take_more, length-map}
 use Rattle.std.proofs.lemmas.List.Elements.{All-nil, All-push}

@@ -1,5 +1,5 @@
 -- Lines that are rewritten from the front, with some places left as they are.
-use Rattle.std.proofs.Common.{◌≡◌, ℕ, zero, suc, ◌+◌, ◌<◌, ◌≤◌, List, [], ◌∷◌, ◌++◌, length, get_or, take, take_all, refl, ap, sym, subst, ◌∙◌, arith, add-one, ℤ, pos, All, IsTrue}
+use Rattle.std.proofs.Common.{◌≡◌, ℕ, zero, suc, ◌+◌, ◌<◌, ◌≤◌, List, [], ◌∷◌, length, get_or, take, take_all, ap, sym, subst, ◌∙◌, arith, add-one, ℤ, pos, All}
 use Rattle.std.proofs.lemmas.List.{take_more}
 use Rattle.std.proofs.lemmas.List.Elements.{All-push}
 use Rattle.integer_laws.specs.InPlace.{rewritten}

@@ -1,13 +1,13 @@
 -- What a pivot in place does to a table over rows.
-use Rattle.std.proofs.Common.{◌≡◌, ℕ, zero, suc, ◌+◌, ◌<◌, ◌≤◌, List, [], ◌∷◌, ◌++◌, take, length, map, get_or, All, refl, ap, sym, subst, arith, ℤ, int_div, inl, inr}
+use Rattle.std.proofs.Common.{◌≡◌, ℕ, zero, suc, ◌+◌, ◌<◌, ◌≤◌, List, [], ◌∷◌, ◌++◌, take, length, map, get_or, All, refl, ap, sym, subst, arith, ℤ, int_div}
 use Rattle.std.proofs.lemmas.List.{length-map}
 use Rattle.integer_laws.specs.Members.{In}
 use Rattle.row_laws.specs.Laws.Lines.{member}
 use Rattle.row_pivots.specs.Laws.Measure.{place_is}
 use Rattle.row_pivots.specs.Tables.{place_of}
 use Rattle.row_pivots.specs.Laws.Pivoting.{get_or-In}
-use Rattle.row_pivots.specs.Laws.Sorted.{rising_members, line_is, says_long}
-use Rattle.row_pivots.specs.Tables.{Fresh, Holds, rising, line_or}
+use Rattle.row_pivots.specs.Laws.Sorted.{rising_members, says_long}
+use Rattle.row_pivots.specs.Tables.{Holds, rising, line_or}
 use Rattle.row_pivots.specs.Laws.Turned.{turned}
 use Rattle.row_pivots.specs.Turns.{quotients}
 use Rattle.row_pivots.specs.Laws.WideRows.{wide_row}
@@ -17,7 +17,7 @@ use Rattle.row_dictionary.specs.Tables.{IsLine, AreLines}
 use Rattle.row_dictionary.specs.Turns.{IsDivisor, Before, whole_den, whole_lines, variable_lines, swapped_basic, swapped_free, Done, Refused}
 use Rattle.row_dictionary.proofs.ByVariables.{line_there, all_divided, variables_divided}
 use Rattle.row_dictionary.proofs.Lines.{at_map}
-use Rattle.seq_model.specs.Dictionaries.{Has, WideAt}
+use Rattle.seq_model.specs.Dictionaries.{WideAt}
 use Rattle.seq_model.specs.declared.row.Row.{Row}
 
 abbrev HoldsIt : ℕ → List Row → Before → Type 0

@@ -1,4 +1,4 @@
-use Rattle.std.proofs.Common.{rules, w64, ◌<◌, ◌^◌, ◌+◌, length, pos, sym, ap, subst, arith, SFits, to_z, to_z-of_z, unsigned_abs, take}
+use Rattle.std.proofs.Common.{rules, w64, ◌<◌, ◌^◌, ◌+◌, length, pos, sym, subst, arith, SFits, to_z, to_z-of_z, unsigned_abs, take}
 use Rattle.row_dictionary.specs.Mixing.{mixed_numbers, IsCommon}
 use Rattle.row_dictionary.proofs.Keeping.{multiples_common}
 use Rattle.row_dictionary.proofs.Numbers.{number_is, long_numbers, common_none, common_more, common_settled, common_all}

@@ -1,4 +1,4 @@
-use Rattle.std.proofs.Common.{◌≡◌, sym, ap, ◌∙◌, subst, List, ℤ, pos, get_or}
+use Rattle.std.proofs.Common.{◌≡◌, sym, ap, ◌∙◌, subst}
 use Rattle.row_dictionary.specs.Mixing.{IsWhole}
 use Rattle.row_dictionary.specs.Tables.{mix_of}
 use Rattle.row_dictionary.specs.declared.number.Mix.{Mix}
