@@ -1,4 +1,4 @@
-use Rattle.std.proofs.Common.{rules, ◌≡◌, ◌<◌, length, get_or, pos, ap, ◌∙◌, arith, SFits, w64, to_z-of_z, int_div}
+use Rattle.std.proofs.Common.{rules, ◌≡◌, ◌<◌, length, get_or, pos, sym, ap, subst, ◌∙◌, arith, SFits, w64, to_z-of_z, int_div}
 use Rattle.integer_laws.specs.Laws.InPlace.{get_or-rewritten, rewritten_more, rewritten_all}
 use Rattle.row_dictionary.specs.Mixing.{mixed, mixed_line}
 use Rattle.row_dictionary.proofs.Numbers.{quotient_is, long_line}
