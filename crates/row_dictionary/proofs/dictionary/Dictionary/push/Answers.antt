@@ -1,4 +1,5 @@
-use Rattle.std.proofs.Common.{◌+◌, ◌++◌, ◌∷◌, [], sym, subst}
+use Rattle.std.proofs.Common.{◌≡◌, ◌+◌, ◌++◌, ◌∷◌, [], ap, sym, subst, length, List, ℤ}
+use Rattle.row_pivots.specs.Growing.{row_line}
 use Rattle.row_pivots.specs.Laws.Grown.{grown}
 use Rattle.row_pivots.specs.Tables.{Holds}
 use Rattle.row_dictionary.specs.Pushing.{line_of}
