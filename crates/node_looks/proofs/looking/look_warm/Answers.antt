@@ -7,7 +7,6 @@ use Rattle.seq_model.specs.Systems.{system}
 use Rattle.seq_model.specs.declared.tree.Mult.{Mult}
 use Rattle.seq_model.specs.declared.tree.Node.TheVariants as Nodes
 use Rattle.warm_rows.specs.Warming.{IsZeroPoint}
-use Rattle.warm_rows.specs.declared.step.Warmed.{Warmed}
 use Rattle.node_looks.proofs.looking.look_warm.Goals as goal
 
 pub returns-in_ok-look_at_point-in-Point-clause-zero : goal.returns-in_ok-look_at_point-in-Point-clause-zero
