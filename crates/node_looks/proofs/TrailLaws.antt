@@ -11,7 +11,7 @@ use Rattle.node_looks.proofs.OrderLaws.{closes_on_path}
 use Rattle.node_looks.proofs.RowLaws.{side_at, rows_small, rows_few}
 use Rattle.node_looks.proofs.RowLaws as R
 use Rattle.node_looks.specs.Held.{HoldsOrders, IsOrderOf}
-use Rattle.node_looks.specs.Trails.{Follows, HasRows, HoldsRows, IsTrail, IsWarmed, StandsAt, orders_of, path_of}
+use Rattle.node_looks.specs.Trails.{Follows, HasRows, IsTrail, IsWarmed, StandsAt, orders_of, path_of}
 use Rattle.node_looks.specs.declared.trail.Level.{Level}
 use Rattle.node_looks.specs.declared.trail.Trail.{Trail}
 use Rattle.object_orders.specs.Orders.{AreAmong, ClosesCycle, Graph, IsAmong}
@@ -30,7 +30,7 @@ use Rattle.seq_model.specs.declared.tree.Choice.TheVariants as Choices
 use Rattle.seq_model.specs.declared.tree.Contact.{Contact}
 use Rattle.seq_model.specs.declared.tree.Dir.{Dir}
 use Rattle.seq_model.specs.declared.tree.Mult.{Mult}
-use Rattle.warm_rows.specs.Warming.{ArePivots, GoesOn, IsPivot, IsRowStep, IsZeroPoint, Repairs, Warmth, row_of, rows_of}
+use Rattle.warm_rows.specs.Warming.{ArePivots, GoesOn, IsRowStep, IsZeroPoint, Repairs, Warmth, row_of, rows_of}
 use Rattle.warm_rows.specs.declared.step.Step.{Step}
 use Rattle.warm_rows.specs.declared.step.Step.TheVariants as Steps
 use Rattle.warm_rows.specs.declared.step.Warmed.{Warmed}

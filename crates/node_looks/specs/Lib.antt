@@ -2,6 +2,7 @@ pub mod Candidates
 pub mod Held
 pub mod Kept
 pub mod Looks
+pub mod Questions
 pub mod Rows
 pub mod Scaled
 pub mod Sites

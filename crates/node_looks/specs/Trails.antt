@@ -11,7 +11,7 @@
 --   IsEntered job e path k t how    what has become of choice k of the path: it is held, or closes a cycle of orders, or isn't held
 --   IsFollowed job e path t how     the same of all of them
 --   IsWarmed vars rows warmed       a point that meets the rows, or a contradiction of them
-use Rattle.std.specs.Prelude.{◌≡◌, ℕ, suc, ◌+◌, ◌*◌, ◌<◌, ◌≤◌, ◌^◌, List, [], ◌∷◌, ◌++◌, pos, ◌≤ℤ◌, ◌<ℤ◌, All, length, map, take}
+use Rattle.std.specs.Prelude.{◌≡◌, ℕ, suc, ◌+◌, ◌*◌, ◌<◌, ◌≤◌, ◌^◌, List, [], ◌∷◌, pos, ◌≤ℤ◌, ◌<ℤ◌, All, length, map, take}
 use Rattle.feasible_point.specs.Shortening.{AreShortest}
 use Rattle.node_looks.specs.declared.trail.Entered.{Entered}
 use Rattle.node_looks.specs.declared.trail.Entered.TheVariants as Entereds

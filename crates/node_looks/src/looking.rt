@@ -5,13 +5,11 @@ ghost use Rattle.feasible_point.specs.Answering.{HasSmallDen, Solves, IsZeroPoin
 ghost use Rattle.feasible_point.specs.Shortening.{IsShortest};
 ghost use Rattle.integer_laws.specs.Vectors.{zeros};
 ghost use Rattle.node_looks.specs.Candidates.{IsCandidate};
-ghost use Rattle.node_looks.specs.Looks.{HasZeroPlan, IsLook, IsZeroLook};
+ghost use Rattle.node_looks.specs.Questions.{IsAnswer, IsQuestion, IsZeroAnswer, IsZeroQuestion, system_of};
 ghost use Rattle.node_looks.specs.Sites.{HoldsAll, IsLookAt, IsSite, IsZeroLookAt, IsZeroSite};
 ghost use Rattle.node_looks.specs.Kept.{IsKept};
 ghost use Rattle.node_looks.specs.Trails.{IsTrail, StandsAt};
-ghost use Rattle.pair_constraints.specs.Maximal.{AreContacts};
-ghost use Rattle.seq_model.specs.Systems.{MeetsRows, system};
-ghost use Rattle.seq_model.specs.Trees.{IsPath};
+ghost use Rattle.seq_model.specs.Systems.{MeetsRows};
 ghost use Rattle.warm_rows.specs.Warming.{IsRowStep};
 
 use crate::advice::room_of;
@@ -76,6 +74,16 @@ fn look_at_site(alloc: Global, site: &Site) -> Result<Look, AllocError>
     }
 }
 
+/// What a look is asked.
+#[derive(Clone, Copy, Debug)]
+pub(crate) struct Question<'a> {
+    pub job: &'a Job,
+    pub extent: u32,
+    pub path: &'a [Choice],
+    /// The maximal contacts of the job.
+    pub contacts: &'a Contacts,
+}
+
 /// How often a look asked for what a system has.
 #[derive(Clone, Copy, Debug, PartialEq, Eq)]
 pub struct Counts {
@@ -85,56 +93,37 @@ pub struct Counts {
     pub solves: u64,
 }
 
-// What the system of a path has, from all slacks.
-fn solve_path(
-    alloc: Global,
-    job: &Job,
-    extent: u32,
-    path: &[Choice],
-    rows: &[Row],
-) -> Result<Solved, NoMemory>
-    requires rows { rows.now ≡ system job.now extent path.now }
-    requires high { extent ≤ job.now.printer.grid }
-    requires path { IsPath job.now path.now }
-    requires short { length path.now ≤ 1_000_000 }
-    ensures is { IfOk result (Solves (2 * length job.now.objects) (system job.now extent path.now)) }
+// What the system of the path has, from all slacks.
+fn solve_path(alloc: Global, asked: &Question, rows: &[Row]) -> Result<Solved, NoMemory>
+    requires asked { IsQuestion asked.now }
+    requires rows { rows.now ≡ system_of asked.now }
+    ensures is { IfOk result (Solves (2 * length asked.now.job.now.objects) (system_of asked.now)) }
     ensures shortest { IfOk result IsShortest }
     ensures den { IfOk result HasSmallDen }
-    ensures zero { path.now ≡ [] → HasZeroPlan job.now extent → IfOk result (IsZeroPoint (2 * length job.now.objects)) }
+    ensures zero { IsZeroQuestion asked.now → IfOk result (IsZeroPoint (2 * length asked.now.job.now.objects)) }
 {
-    solve(alloc, 2 * job.objects.len() as u32, rows)
+    solve(alloc, 2 * asked.job.objects.len() as u32, rows)
 }
 
-// The look at a path, from all slacks and without the orders that are held.
-fn look_anew<'a>(
-    alloc: Global,
-    contacts: &'a Contacts,
-    counts: &mut Counts,
-    job: &'a Job,
-    extent: u32,
-    path: &'a [Choice],
-) -> Result<Look, NoMemory>
-    requires contacts { AreContacts job.now contacts.now }
-    requires low { 1 ≤ extent }
-    requires high { extent ≤ job.now.printer.grid }
-    requires path { IsPath job.now path.now }
-    requires short { length path.now ≤ 1_000_000 }
-    ensures look { IfOk result (IsLook job.now extent path.now) }
-    ensures zero { path.now ≡ [] → HasZeroPlan job.now extent → IfOk result (IsZeroLook job.now extent) }
+// The look at the path, from all slacks and without the orders that are held.
+fn look_anew<'a>(alloc: Global, asked: &Question<'a>, counts: &mut Counts) -> Result<Look, NoMemory>
+    requires { IsQuestion asked.now }
+    ensures look { IfOk result (IsAnswer asked.now) }
+    ensures zero { IsZeroQuestion asked.now → IfOk result (IsZeroAnswer asked.now) }
 {
     counts.solves = counts.solves.saturating_add(1);
-    let rows = system_rows(alloc, job, extent, path)?;
-    match solve_path(alloc, job, extent, path, &rows)? {
+    let rows = system_rows(alloc, asked.job, asked.extent, asked.path)?;
+    match solve_path(alloc, asked, &rows)? {
         Solved::Point { den, nums } => {
-            let table = table_of(path);
-            let room = room_of(job, path, &rows);
+            let table = table_of(asked.path);
+            let room = room_of(asked.job, asked.path, &rows);
             let at = SolvedPoint::new(den, &nums);
             let site = Site {
-                job,
-                extent,
-                path,
+                job: asked.job,
+                extent: asked.extent,
+                path: asked.path,
                 table: &table,
-                contacts,
+                contacts: asked.contacts,
                 room: &room,
                 at,
             };
@@ -153,34 +142,30 @@ fn look_anew<'a>(
 // The look at a point of the path that the trail stands at.
 fn look_at_point(
     alloc: Global,
-    contacts: &Contacts,
+    asked: &Question,
     trail: &Trail,
-    job: &Job,
-    extent: u32,
-    path: &[Choice],
     den: &i64,
     nums: &[i64],
 ) -> Result<Look, AllocError>
-    requires contacts { AreContacts job.now contacts.now }
-    requires low { 1 ≤ extent }
-    requires high { extent ≤ job.now.printer.grid }
-    requires at { StandsAt job.now extent path.now trail.now }
-    requires meets { MeetsRows (system job.now extent path.now) den.now nums.now }
-    requires many { length nums.now ≡ 2 * length job.now.objects }
+    requires asked { IsQuestion asked.now }
+    requires at { StandsAt asked.now.job.now asked.now.extent asked.now.path.now trail.now }
+    requires meets { MeetsRows (system_of asked.now) den.now nums.now }
+    requires many { length nums.now ≡ 2 * length asked.now.job.now.objects }
     requires small { den.now <ℤ pos (2 ^ 62) }
-    ensures look { IfOk result (IsLook job.now extent path.now) }
-    ensures zero { path.now ≡ [] → HasZeroPlan job.now extent → den.now ≡ pos 1 → nums.now ≡ zeros (2 * length job.now.objects)
-        → IfOk result (IsZeroLook job.now extent) }
+    ensures look { IfOk result (IsAnswer asked.now) }
+    ensures zero { IsZeroQuestion asked.now → den.now ≡ pos 1
+        → nums.now ≡ zeros (2 * length asked.now.job.now.objects) → IfOk result (IsZeroAnswer asked.now) }
 {
-    let table = table_of(path);
+    let table = table_of(asked.path);
+    let at = SolvedPoint::new(*den, nums);
     let site = Site {
-        job,
-        extent,
-        path,
+        job: asked.job,
+        extent: asked.extent,
+        path: asked.path,
         table: &table,
-        contacts,
+        contacts: asked.contacts,
         room: &trail.room,
-        at: SolvedPoint::new(*den, nums),
+        at,
     };
     look_in_order(alloc, &site, &trail.graph)
 }
@@ -188,63 +173,48 @@ fn look_at_point(
 // The look at the path that the trail stands at.
 fn look_warm(
     alloc: Global,
-    contacts: &Contacts,
+    asked: &Question,
     trail: &mut Trail,
     counts: &mut Counts,
-    job: &Job,
-    path: &[Choice],
 ) -> Result<Look, NoMemory>
-    requires contacts { AreContacts job.now contacts.now }
-    requires low { 1 ≤ trail.old.extent }
-    requires high { trail.old.extent ≤ job.now.printer.grid }
-    requires path { IsPath job.now path.now }
-    requires short { length path.now ≤ 1_000_000 }
-    requires at { StandsAt job.now trail.old.extent path.now trail.old }
-    ensures stays { IsTrail job.now trail.new }
-    ensures look { IfOk result (IsLook job.now trail.old.extent path.now) }
-    ensures zero { path.now ≡ [] → HasZeroPlan job.now trail.old.extent → All IsRowStep trail.old.warm.steps
-        → IfOk result (IsZeroLook job.now trail.old.extent) }
+    requires asked { IsQuestion asked.now }
+    requires at { StandsAt asked.now.job.now asked.now.extent asked.now.path.now trail.old }
+    ensures stays { IsTrail asked.now.job.now trail.new }
+    ensures look { IfOk result (IsAnswer asked.now) }
+    ensures zero { IsZeroQuestion asked.now → All IsRowStep trail.old.warm.steps
+        → IfOk result (IsZeroAnswer asked.now) }
 {
-    let extent = trail.extent;
     counts.repairs = counts.repairs.saturating_add(1);
-    match trail.repair(alloc, job, path)? {
-        Warmed::Point { den, nums } => Ok(look_at_point(
-            alloc, contacts, trail, job, extent, path, &den, &nums,
-        )?),
+    match trail.repair(alloc, asked.job, asked.extent, asked.path)? {
+        Warmed::Point { den, nums } => Ok(look_at_point(alloc, asked, trail, &den, &nums)?),
         Warmed::Contradiction(mults) => Ok(Look::Close(Node::Bound {
             mults: Items::from_vec(mults),
         })),
-        Warmed::Cold => look_anew(alloc, contacts, counts, job, extent, path),
+        Warmed::Cold => look_anew(alloc, asked, counts),
     }
 }
 
-// The look at a path, to which the trail goes from wherever it is.
+// The look at the path, to which the trail goes from wherever it is.
 fn look_along(
     alloc: Global,
-    contacts: &Contacts,
+    asked: &Question,
     trail: &mut Trail,
     counts: &mut Counts,
-    job: &Job,
-    path: &[Choice],
 ) -> Result<Look, NoMemory>
-    requires contacts { AreContacts job.now contacts.now }
-    requires low { 1 ≤ trail.old.extent }
-    requires high { trail.old.extent ≤ job.now.printer.grid }
-    requires path { IsPath job.now path.now }
-    requires short { length path.now ≤ 1_000_000 }
-    requires trail { IsTrail job.now trail.old }
-    ensures stays { OnOk result (IsTrail job.now trail.new) }
-    ensures look { IfOk result (IsLook job.now trail.old.extent path.now) }
+    requires asked { IsQuestion asked.now }
+    requires trail { IsTrail asked.now.job.now trail.old }
+    requires extent { trail.old.extent ≡ asked.now.extent }
+    ensures stays { OnOk result (IsTrail asked.now.job.now trail.new) }
+    ensures look { IfOk result (IsAnswer asked.now) }
 {
-    let extent = trail.extent;
-    match trail.follow(alloc, job, path)? {
-        Entered::Held => look_warm(alloc, contacts, trail, counts, job, path),
-        Entered::Missed => look_anew(alloc, contacts, counts, job, extent, path),
+    match trail.follow(alloc, asked.job, asked.path)? {
+        Entered::Held => look_warm(alloc, asked, trail, counts),
+        Entered::Missed => look_anew(alloc, asked, counts),
         Entered::Cycle(cycle) => Ok(close_cycle(
             alloc,
-            job,
-            extent,
-            path,
+            asked.job,
+            asked.extent,
+            asked.path,
             &cycle.objects[..cycle.len as usize],
         )?),
     }
@@ -292,27 +262,21 @@ fn trail_for(
 // The look at the empty path, where a search of an extent begins.
 fn look_at_root(
     alloc: Global,
-    contacts: &Contacts,
+    asked: &Question,
     kept: &mut Option<Box<Trail>>,
     counts: &mut Counts,
-    job: &Job,
-    extent: u32,
-    path: &[Choice],
 ) -> Result<Look, NoMemory>
-    requires contacts { AreContacts job.now contacts.now }
-    requires low { 1 ≤ extent }
-    requires high { extent ≤ job.now.printer.grid }
-    requires path { IsPath job.now path.now }
-    requires root { path.now ≡ [] }
-    ensures stays { IsKept job.now kept.new }
-    ensures look { IfOk result (IsLook job.now extent path.now) }
-    ensures zero { HasZeroPlan job.now extent → IfOk result (IsZeroLook job.now extent) }
+    requires asked { IsQuestion asked.now }
+    requires root { asked.now.path.now ≡ [] }
+    ensures stays { IsKept asked.now.job.now kept.new }
+    ensures look { IfOk result (IsAnswer asked.now) }
+    ensures zero { IsZeroQuestion asked.now → IfOk result (IsZeroAnswer asked.now) }
 {
     *kept = None;
-    let Some(mut trail) = begun(alloc, job, extent)? else {
-        return look_anew(alloc, contacts, counts, job, extent, path);
+    let Some(mut trail) = begun(alloc, asked.job, asked.extent)? else {
+        return look_anew(alloc, asked, counts);
     };
-    let look = look_warm(alloc, contacts, &mut trail, counts, job, path)?;
+    let look = look_warm(alloc, asked, &mut trail, counts)?;
     *kept = Some(trail);
     Ok(look)
 }
@@ -320,28 +284,53 @@ fn look_at_root(
 // The look at any other path.
 fn look_below(
     alloc: Global,
-    contacts: &Contacts,
+    asked: &Question,
     kept: &mut Option<Box<Trail>>,
     counts: &mut Counts,
-    job: &Job,
-    extent: u32,
-    path: &[Choice],
 ) -> Result<Look, NoMemory>
-    requires contacts { AreContacts job.now contacts.now }
-    requires low { 1 ≤ extent }
-    requires high { extent ≤ job.now.printer.grid }
-    requires path { IsPath job.now path.now }
-    requires short { length path.now ≤ 1_000_000 }
-    requires kept { IsKept job.now kept.old }
-    ensures stays { IsKept job.now kept.new }
-    ensures look { IfOk result (IsLook job.now extent path.now) }
+    requires asked { IsQuestion asked.now }
+    requires kept { IsKept asked.now.job.now kept.old }
+    ensures stays { IsKept asked.now.job.now kept.new }
+    ensures look { IfOk result (IsAnswer asked.now) }
 {
-    let Some(mut trail) = trail_for(alloc, kept.take(), job, extent)? else {
-        return look_anew(alloc, contacts, counts, job, extent, path);
+    let Some(mut trail) = trail_for(alloc, kept.take(), asked.job, asked.extent)? else {
+        return look_anew(alloc, asked, counts);
     };
-    let look = look_along(alloc, contacts, &mut trail, counts, job, path)?;
+    let look = look_along(alloc, asked, &mut trail, counts)?;
     *kept = Some(trail);
     Ok(look)
+}
+
+fn look_by(
+    alloc: Global,
+    asked: &Question,
+    kept: &mut Option<Box<Trail>>,
+    counts: &mut Counts,
+) -> Result<Look, NoMemory>
+    requires asked { IsQuestion asked.now }
+    requires kept { IsKept asked.now.job.now kept.old }
+    ensures stays { IsKept asked.now.job.now kept.new }
+    ensures look { IfOk result (IsAnswer asked.now) }
+    ensures zero { IsZeroQuestion asked.now → IfOk result (IsZeroAnswer asked.now) }
+{
+    if asked.path.is_empty() {
+        return look_at_root(alloc, asked, kept, counts);
+    }
+    look_below(alloc, asked, kept, counts)
+}
+
+fn asking<'a>(job: &'a Job, extent: u32, path: &'a [Choice], contacts: &'a Contacts) -> Question<'a>
+    ensures job { result.job.now ≡ job.now }
+    ensures extent { result.extent ≡ extent }
+    ensures path { result.path.now ≡ path.now }
+    ensures contacts { result.contacts.now ≡ contacts.now }
+{
+    Question {
+        job,
+        extent,
+        path,
+        contacts,
+    }
 }
 
 /// Looks at nodes of a job, and finds what to split by the maximal contacts, fewest live sides first.
@@ -363,25 +352,11 @@ impl Looks for Looker {
     ghost IsFor = { λ looker job. AreContacts job looker.contacts × IsKept job looker.kept };
 
     fn look(&mut self, job: &Job, extent: u32, path: &[Choice]) -> Result<Look, NoMemory> {
-        if path.is_empty() {
-            return look_at_root(
-                self.alloc,
-                &self.contacts,
-                &mut self.kept,
-                &mut self.counts,
-                job,
-                extent,
-                path,
-            );
-        }
-        look_below(
+        look_by(
             self.alloc,
-            &self.contacts,
+            &asking(job, extent, path, &self.contacts),
             &mut self.kept,
             &mut self.counts,
-            job,
-            extent,
-            path,
         )
     }
 }

@@ -309,12 +309,18 @@ impl Trail {
     }
 
     /// What the rows have of the path that it stands at.
-    pub fn repair(&mut self, alloc: Global, job: &Job, path: &[Choice]) -> Result<Warmed, NoMemory>
-        requires { StandsAt job.now self.old.extent path.now self.old }
-        ensures at { StandsAt job.now self.old.extent path.now self.new }
-        ensures is { IfOk result (IsWarmed (2 * length job.now.objects) (system job.now self.old.extent path.now)) }
+    pub fn repair(
+        &mut self,
+        alloc: Global,
+        job: &Job,
+        extent: u32,
+        path: &[Choice],
+    ) -> Result<Warmed, NoMemory>
+        requires { StandsAt job.now extent path.now self.old }
+        ensures at { StandsAt job.now extent path.now self.new }
+        ensures is { IfOk result (IsWarmed (2 * length job.now.objects) (system job.now extent path.now)) }
         ensures zero { All IsRowStep self.old.warm.steps
-            → MeetsRows (system job.now self.old.extent path.now) (pos 1) (zeros (2 * length job.now.objects))
+            → MeetsRows (system job.now extent path.now) (pos 1) (zeros (2 * length job.now.objects))
             → IfOk result (IsZeroPoint (2 * length job.now.objects)) }
     {
         self.warm.repair(alloc)

@@ -11,9 +11,9 @@ use Rattle.node_looks.proofs.looking.look_anew.Goals as goal
 
 pub returns-in-Contradiction-clause-look : goal.returns-in-Contradiction-clause-look
 returns-in-Contradiction-clause-look c =
-    let job = c.args.job.now in
-    let path = c.args.path.now in
-    let s = subst (λ (v : Solved). Solves (2 * length job.objects) (system job c.args.extent path) v) c.in-Contradiction.is c.in_ok-den.ensures.is in
+    let job = c.args.asked.now.job.now in
+    let path = c.args.asked.now.path.now in
+    let s = subst (λ (v : Solved). Solves (2 * length job.objects) (system job c.args.asked.now.extent path) v) c.in-Contradiction.is c.in_ok-den.ensures.is in
     let t = subst IsShortest c.in-Contradiction.is c.in_ok-den.ensures.shortest in
-    subst (λ (ms : List Mult). ClosesBy job c.args.extent path (Nodes.Bound ms)) (sym c.from_vec.ensures)
-    (bound_closes job c.args.extent path c.in-Contradiction.mults.items c.requires.short s.0 s.1 s.2 s.3 s.4 t)
+    subst (λ (ms : List Mult). ClosesBy job c.args.asked.now.extent path (Nodes.Bound ms)) (sym c.from_vec.ensures)
+    (bound_closes job c.args.asked.now.extent path c.in-Contradiction.mults.items c.requires.short s.0 s.1 s.2 s.3 s.4 t)

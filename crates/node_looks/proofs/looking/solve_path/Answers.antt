@@ -11,19 +11,19 @@ use Rattle.node_looks.proofs.looking.solve_path.Goals as goal
 pub solve-requires-clause-rows : goal.solve-requires-clause-rows
 solve-requires-clause-rows c =
     subst (λ (n : ℕ). AreRowsOf (2 * n) c.args.rows.now) (sym c.len.ensures)
-    (rows_of c.args.job.now c.args.extent c.args.path.now c.args.rows.now c.requires.rows c.requires.high c.requires.path)
+    (rows_of c.args.asked.now.job.now c.args.asked.now.extent c.args.asked.now.path.now c.args.rows.now c.requires.rows c.requires.asked.to_grid c.requires.asked.is_path)
 
 pub solve-requires-clause-small : goal.solve-requires-clause-small
-solve-requires-clause-small c = rows_small c.args.job.now c.args.extent c.args.path.now c.args.rows.now c.requires.rows c.requires.high c.requires.path
+solve-requires-clause-small c = rows_small c.args.asked.now.job.now c.args.asked.now.extent c.args.asked.now.path.now c.args.rows.now c.requires.rows c.requires.asked.to_grid c.requires.asked.is_path
 
 pub solve-requires-clause-count : goal.solve-requires-clause-count
 solve-requires-clause-count c =
-    let r = rows_few c.args.job.now c.args.extent c.args.path.now c.args.rows.now c.requires.rows c.requires.short in
+    let r = rows_few c.args.asked.now.job.now c.args.asked.now.extent c.args.asked.now.path.now c.args.rows.now c.requires.rows c.requires.asked.short in
     omega (arith, r, c.len.ensures)
 
 pub returns-clause-zero : goal.returns-clause-zero
-returns-clause-zero c = λ none h.
+returns-clause-zero c = λ q.
     let rows = c.args.rows.now in
     subst (λ (n : ℕ). IfOk c.solve.result (IsZeroPoint (2 * n))) c.len.ensures
     (c.solve.ensures.zero (subst (λ (n : ℕ). MeetsRows rows (pos 1) (zeros (2 * n))) (sym c.len.ensures)
-    (zero_meets c.args.job.now c.args.extent c.args.path.now rows c.requires.rows none h)))
+    (zero_meets c.args.asked.now.job.now c.args.asked.now.extent c.args.asked.now.path.now rows c.requires.rows q.0 q.1)))

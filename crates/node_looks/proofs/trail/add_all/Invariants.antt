@@ -1,4 +1,4 @@
-use Rattle.std.proofs.Common.{map, take}
+use Rattle.std.proofs.Common.{take}
 use Rattle.node_looks.specs.Trails.{HasRows}
 use Rattle.node_looks.proofs.trail.add_all.Given as goal
 

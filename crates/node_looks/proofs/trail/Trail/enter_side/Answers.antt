@@ -1,9 +1,7 @@
-use Rattle.std.proofs.Common.{ℕ, List, ◌≡◌, ◌∷◌, [], length, take, refl, sym, ap, subst, ◌∙◌, arith}
+use Rattle.std.proofs.Common.{◌∷◌, [], length, take, refl, sym, ap, subst, ◌∙◌, arith}
 use Rattle.node_looks.proofs.TrailLaws.{side_addable, side_entered, side_there, stands_rows}
-use Rattle.node_looks.specs.declared.trail.Level.{Level}
 use Rattle.row_dictionary.specs.Scans.{IsSmallRow}
 use Rattle.seq_model.specs.declared.row.Row.{Row}
-use Rattle.seq_model.specs.declared.tree.Choice.TheVariants as Choices
 use Rattle.warm_rows.specs.Warming.{Warmth}
 use Rattle.node_looks.proofs.trail.Trail.enter_side.Goals as goal
 

@@ -1,6 +1,5 @@
-use Rattle.std.proofs.Common.{ℕ, List, [], All, refl, sym, ap, subst, ◌∙◌}
+use Rattle.std.proofs.Common.{ℕ, [], All, refl, sym, ap, subst, ◌∙◌}
 use Rattle.node_looks.proofs.TrailLaws.{are_rows, path_none, trail_new}
-use Rattle.node_looks.specs.Trails.{HasRows}
 use Rattle.object_orders.specs.Orders.{Graph}
 use Rattle.warm_rows.specs.Warming.{IsRowStep}
 use Rattle.node_looks.proofs.trail.Trail.new.Goals as goal

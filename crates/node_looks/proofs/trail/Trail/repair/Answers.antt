@@ -13,9 +13,9 @@ returns-clause-at c = record {
 pub returns-clause-is : goal.returns-clause-is
 returns-clause-is c =
     let t = c.args.self.now in
-    IfOk-weaker c.repair.result _ _ (λ w r. repaired_is t.warm c.repair.new.self _ _ w c.requires.trail.vars (stands_rows c.args.job.now t.extent c.args.path.now t c.requires) r) c.repair.ensures.is
+    IfOk-weaker c.repair.result _ _ (λ w r. repaired_is t.warm c.repair.new.self _ _ w c.requires.trail.vars (stands_rows c.args.job.now c.args.extent c.args.path.now t c.requires) r) c.repair.ensures.is
 
 pub returns-clause-zero : goal.returns-clause-zero
 returns-clause-zero c = λ unmoved meets.
     let t = c.args.self.now in
-    zero_repaired c.repair.result t.warm _ _ c.requires.trail.vars (stands_rows c.args.job.now t.extent c.args.path.now t c.requires) (c.repair.ensures.zero unmoved) meets
+    zero_repaired c.repair.result t.warm _ _ c.requires.trail.vars (stands_rows c.args.job.now c.args.extent c.args.path.now t c.requires) (c.repair.ensures.zero unmoved) meets
