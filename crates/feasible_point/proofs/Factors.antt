@@ -1,5 +1,5 @@
 -- The greatest number that divides all multipliers, one multiplier more.
-use Rattle.std.proofs.Common.{◌≡◌, ◌↔◌, ℕ, ◌+◌, ◌*◌, ◌<◌, ◌≤◌, List, [], ◌∷◌, ◌++◌, length, map, get_or, take, take_all, All, refl, ap, sym, subst, ◌∙◌, arith, ℤ, pos, ◌≤ℤ◌, ◌<ℤ◌, unsigned_abs, inl}
+use Rattle.std.proofs.Common.{◌≡◌, ℕ, ◌+◌, ◌*◌, ◌<◌, ◌≤◌, List, [], ◌∷◌, ◌++◌, length, get_or, take, take_all, All, refl, ap, sym, subst, arith, ℤ, pos, ◌≤ℤ◌, unsigned_abs, inl}
 use Rattle.std.proofs.lemmas.Int.{ints, by_lt_z}
 use Rattle.std.proofs.lemmas.List.{take_more}
 use Rattle.std.proofs.lemmas.List.Elements.{All-nil, All-push, All-head}
@@ -10,7 +10,7 @@ use Rattle.integer_laws.specs.Laws.Divisors.{divides_gcd}
 use Rattle.integer_laws.specs.Laws.Members.{All-in, All-from_in, In-append_left, In-append_right}
 use Rattle.integer_laws.specs.Laws.Order.{one_le}
 use Rattle.row_pivots.specs.Laws.Turned.{divides_self}
-use Rattle.feasible_point.specs.Shortening.{Divides, IsFactor, shorter, IsTaking}
+use Rattle.feasible_point.specs.Shortening.{Divides, IsFactor, IsTaking}
 use Rattle.seq_model.specs.declared.tree.Mult.{Mult}
 
 pub factor_none : (ms : List Mult) → IsFactor (take 0 ms) (pos 0)

@@ -3,7 +3,7 @@
 --   NoPoint rows                 no point meets all rows
 --   SomeWide vars rows           the walk from all slacks ends before a wide basis
 --   Exactly vars rows solved     each answer comes just where its case is so
-use Rattle.std.proofs.Common.{◌≡◌, ◌↔◌, ℕ, List, ℤ}
+use Rattle.std.proofs.Common.{◌↔◌, ℕ, List, ℤ}
 use Rattle.feasible_point.specs.Answering.{NeverWide}
 use Rattle.feasible_point.specs.declared.Solved.{Solved}
 use Rattle.feasible_point.specs.declared.Solved.TheVariants as Solveds

@@ -5,7 +5,7 @@
 --   Shortened mults list         all of them, divided by the greatest number that divides them
 --   IsTaking m                   a multiplier is at least 1 and below 2^62
 --   IsShortest solved            where it is a contradiction, no number above 1 divides all of its multipliers, and each is below 2^62
-use Rattle.std.specs.Prelude.{◌≡◌, ◌↔◌, ℕ, ◌<◌, ◌^◌, List, ℤ, pos, ◌≤ℤ◌, ◌<ℤ◌, unsigned_abs, int_div, All, map}
+use Rattle.std.specs.Prelude.{◌≡◌, ◌↔◌, ℕ, ◌^◌, List, ℤ, pos, ◌≤ℤ◌, ◌<ℤ◌, unsigned_abs, int_div, All, map}
 use Rattle.std.specs.Int.{◌∣◌}
 use Rattle.row_pivots.specs.Ends.{Small}
 use Rattle.feasible_point.specs.declared.Solved.{Solved}

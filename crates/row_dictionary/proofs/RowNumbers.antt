@@ -1,5 +1,5 @@
 -- The numbers of a row over the free variables.
-use Rattle.std.proofs.Common.{◌≡◌, ◌≢◌, ◌↔◌, ℕ, zero, suc, ◌+◌, ◌<◌, ◌≤◌, List, [], ◌∷◌, ◌++◌, length, map, get_or, set, take, take_all, All, refl, ap, ap₂, sym, subst, ◌∙◌, arith, ℤ, pos, ◌+ℤ◌, ◌*ℤ◌, ◌⊎◌, inl, inr, Bool, true, false, IsTrue, Contains, length-set}
+use Rattle.std.proofs.Common.{◌≡◌, ℕ, zero, suc, ◌+◌, ◌<◌, ◌≤◌, List, [], ◌∷◌, length, map, get_or, set, take, take_all, refl, ap, ap₂, sym, ◌∙◌, arith, ℤ, pos, ◌+ℤ◌, ◌*ℤ◌, ◌⊎◌, inl, inr, Bool, true, false, Contains, length-set}
 use Rattle.std.proofs.lemmas.Bool.Decides.{nat_tests}
 use Rattle.std.proofs.lemmas.Int.{ints}
 use Rattle.std.proofs.lemmas.List.{length-map, length-replicate, get_or-set_same, get_or-set_other}
@@ -10,7 +10,7 @@ use Rattle.std.specs.List.{range_with_len}
 use Rattle.integer_laws.specs.Members.{In}
 use Rattle.integer_laws.specs.Laws.Members.{In-from_contains, Contains-from_in, In-map_cases}
 use Rattle.integer_laws.specs.Vectors.{dot, zeros}
-use Rattle.row_laws.specs.Laws.Independence.{true_or_false, in_basis, is_in_member, is_equal}
+use Rattle.row_laws.specs.Laws.Independence.{true_or_false, in_basis, is_in_member}
 use Rattle.row_pivots.specs.Growing.{line_over, row_lines, row_line}
 use Rattle.row_pivots.specs.Laws.Pivoting.{column, column_at, get_or-map, long_combination}
 use Rattle.row_pivots.specs.Laws.Measure.{place_is}

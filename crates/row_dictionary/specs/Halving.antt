@@ -2,7 +2,7 @@
 --
 --   whole h              the number: high times 2^62, and low
 --   IsWithin n h         the halves of a sum of n numbers below 2^124 in size
-use Rattle.std.specs.Prelude.{ℕ, ◌*◌, ◌<◌, ◌≤◌, ◌^◌, ℤ, pos, ◌+ℤ◌, ◌*ℤ◌, ◌≤ℤ◌, unsigned_abs}
+use Rattle.std.specs.Prelude.{ℕ, ◌*◌, ◌≤◌, ◌^◌, ℤ, pos, ◌+ℤ◌, ◌*ℤ◌, ◌≤ℤ◌, unsigned_abs}
 use Rattle.row_dictionary.specs.declared.halves.Halves.{Halves}
 
 abbrev pub whole : Halves → ℤ

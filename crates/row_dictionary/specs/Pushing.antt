@@ -7,7 +7,7 @@
 use Rattle.std.specs.Prelude.{◌≡◌, ℕ, ◌+◌, ◌++◌, ◌∷◌, [], List, ℤ, All, length}
 use Rattle.row_pivots.specs.Ends.{Small}
 use Rattle.row_pivots.specs.Growing.{row_line}
-use Rattle.row_dictionary.specs.Seen.{Seen, IsOf}
+use Rattle.row_dictionary.specs.Seen.{Seen}
 use Rattle.row_dictionary.specs.declared.pushed.Pushed.{Pushed}
 use Rattle.row_dictionary.specs.declared.pushed.Pushed.TheVariants as Pusheds
 use Rattle.seq_model.specs.declared.row.Row.{Row}

@@ -1,9 +1,9 @@
 -- A contradiction with its multipliers divided by what divides them all.
-use Rattle.std.proofs.Common.{◌≡◌, ◌↔◌, ℕ, zero, suc, ◌+◌, ◌*◌, ◌<◌, ◌≤◌, ◌^◌, List, [], ◌∷◌, length, map, All, refl, ap, ap₂, sym, subst, ◌∙◌, arith, ℤ, pos, ◌+ℤ◌, ◌*ℤ◌, ◌≤ℤ◌, ◌<ℤ◌, unsigned_abs, int_div, mul-one}
+use Rattle.std.proofs.Common.{◌≡◌, ℕ, suc, ◌*◌, ◌<◌, ◌≤◌, ◌^◌, List, [], ◌∷◌, length, map, All, refl, ap, ap₂, sym, subst, ◌∙◌, arith, ℤ, pos, ◌+ℤ◌, ◌*ℤ◌, ◌≤ℤ◌, ◌<ℤ◌, unsigned_abs, int_div, mul-one}
 use Rattle.std.proofs.lemmas.Int.{ints, unsigned_abs-mul}
 use Rattle.std.proofs.lemmas.List.{length-map}
 use Rattle.std.proofs.lemmas.List.Elements.{All-nil, All-cons, All-head, All-tail}
-use Rattle.std.proofs.Math.Nat.{dvd-mul_right, mul-dvd-mul_left, dvd_of_mul-dvd-mul_left, eq-one_of_dvd-one}
+use Rattle.std.proofs.Math.Nat.{mul-dvd-mul_left, dvd_of_mul-dvd-mul_left, eq-one_of_dvd-one}
 use Rattle.std.specs.Int.{◌∣◌}
 use Rattle.integer_laws.specs.Laws.Divisors.{exact_quotient}
 use Rattle.integer_laws.specs.Laws.Order.{cancel_lt, cancel_le, mul_le, one_le}
@@ -11,7 +11,6 @@ use Rattle.integer_laws.specs.Laws.Ring.{expand}
 use Rattle.integer_laws.specs.Vectors.{plus, scale}
 use Rattle.row_pivots.specs.Laws.Turned.{divides_self}
 use Rattle.row_pivots.specs.Ends.{Small}
-use Rattle.feasible_point.specs.Answering.{NeverWide}
 use Rattle.feasible_point.specs.Shortening.{Divides, IsFactor, shorter, Shortened, IsTaking, AreShortest}
 use Rattle.seq_model.specs.Dictionaries.{Rises}
 use Rattle.seq_model.specs.Systems.{row_at, sum_constant, sum_coefficients, IsTaken, Contradiction}

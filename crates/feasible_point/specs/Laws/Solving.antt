@@ -1,16 +1,13 @@
 -- Each turn of the walk, and what its end says of the rows.
-use Rattle.std.proofs.Common.{◌≡◌, ℕ, suc, ◌+◌, ◌<◌, ◌≤◌, ◌^◌, List, length, map, All, refl, ap, sym, subst, ◌∙◌, arith, ℤ, pos, ◌≤ℤ◌, Some, None, Contains, inl, inr}
-use Rattle.std.proofs.lemmas.Int.{ints}
+use Rattle.std.proofs.Common.{◌≡◌, ℕ, suc, ◌+◌, ◌<◌, ◌≤◌, ◌^◌, List, length, map, All, ap, sym, subst, ◌∙◌, ℤ, pos, ◌≤ℤ◌, Contains, inl, inr}
 use Rattle.std.proofs.lemmas.List.{length-map}
 use Rattle.std.proofs.lemmas.List.FromFn.{length-range_with_len}
 use Rattle.std.specs.List.{range_with_len}
 use Rattle.integer_laws.specs.Members.{In}
-use Rattle.integer_laws.specs.Laws.Members.{All-from_in, Contains-from_in}
+use Rattle.integer_laws.specs.Laws.Members.{Contains-from_in}
 use Rattle.row_pivots.specs.Ends.{mults, weight, NoEntry}
-use Rattle.row_pivots.specs.Laws.Contradictions.{contradicts, few_mults, some_mults, rising_mults, taken_of}
+use Rattle.row_pivots.specs.Laws.Contradictions.{contradicts, few_mults, some_mults, rising_mults}
 use Rattle.row_pivots.specs.Steps.{steps_left}
-use Rattle.row_pivots.specs.Tables.{AreRowsOf}
-use Rattle.row_pivots.specs.Laws.Slacks.{slack_table}
 use Rattle.row_pivots.specs.Tables.{Holds, rising, line_or}
 use Rattle.row_dictionary.specs.Laws.Found.{LeavesAt, EntersAt, leaves_at, none_leaves, enters_at, none_enters}
 use Rattle.row_dictionary.specs.Scans.{start}
@@ -22,8 +19,8 @@ use Rattle.row_dictionary.specs.declared.turn.Turn.TheVariants as Turns
 use Rattle.feasible_point.specs.Answering.{Answers, Solves, mults_of}
 use Rattle.feasible_point.specs.Shortening.{Shortened, IsTaking, IsShortest}
 use Rattle.feasible_point.specs.Laws.Shorter.{Certifies, certifies}
-use Rattle.feasible_point.specs.Walked.{Reached, Walks, GoesOn, Ended, nums_upto}
-use Rattle.feasible_point.specs.Laws.Walking.{table, steps_of, pivots_to, fewer, reached_next, reached_here, slacks_rise, walk_to, walk_wide, never_wide, stops_point, stops_none, nums, upto_is, meets}
+use Rattle.feasible_point.specs.Walked.{Reached, Walks, GoesOn, Ended}
+use Rattle.feasible_point.specs.Laws.Walking.{table, steps_of, pivots_to, fewer, reached_next, walk_to, walk_wide, never_wide, stops_point, stops_none, upto_is, meets}
 use Rattle.feasible_point.specs.declared.Solved.{Solved}
 use Rattle.feasible_point.specs.declared.Solved.TheVariants as Solveds
 use Rattle.seq_model.specs.Dictionaries.{Rises}

@@ -5,21 +5,20 @@
 --   Reached vars rows basis            the walk from all slacks comes to the basis
 --   pivots_to, next_is                 where something leaves and something enters, the basis of both is the next one, and its table the next table
 --   stops_point, stops_none            where nothing leaves, or nothing can enter, the walk stops
-use Rattle.std.proofs.Common.{◌≡◌, ◌≢◌, ℕ, zero, suc, ◌+◌, ◌<◌, ◌≤◌, ◌^◌, List, [], ◌∷◌, ◌++◌, length, map, get_or, set, refl, ap, ap₂, sym, subst, ◌∙◌, arith, ℤ, pos, ◌≤ℤ◌, ◌<ℤ◌, ◌⊎◌, inl, inr, Bool, true, false, Some, None, Contains, ◌↔◌}
-use Rattle.std.proofs.lemmas.Int.{ints}
+use Rattle.std.proofs.Common.{◌≡◌, ◌≢◌, ℕ, zero, suc, ◌+◌, ◌<◌, ◌≤◌, ◌^◌, List, [], ◌∷◌, ◌++◌, length, map, get_or, refl, ap, ap₂, sym, subst, ◌∙◌, arith, ℤ, pos, ◌≤ℤ◌, ◌<ℤ◌, ◌⊎◌, inl, inr, true, false, Some, None, Contains, ◌↔◌}
 use Rattle.std.proofs.lemmas.Option.{none-some}
 use Rattle.std.specs.List.{range_with_len}
 use Rattle.std.specs.Prelude.{slice_get}
 use lib.Dec.{T}
 use Rattle.integer_laws.specs.Members.{In}
 use Rattle.integer_laws.specs.Laws.Members.{In-from_contains, Contains-from_in}
-use Rattle.row_laws.specs.Laws.Independence.{Climbs, from_zero, true_or_false, in_basis, is_in_member}
+use Rattle.row_laws.specs.Laws.Independence.{Climbs, true_or_false, in_basis, is_in_member}
 use Rattle.row_laws.specs.Laws.OneWalk.{one_walk, last_same}
 use Rattle.row_laws.specs.Laws.Pivots.{below, filter_climbs, free_climbs, to_rises, rising_same, same_result}
 use Rattle.row_pivots.specs.Laws.Bland.{not_basic}
 use Rattle.row_pivots.specs.Ends.{NoEntry}
 use Rattle.row_pivots.specs.Laws.Measure.{place_is, falls}
-use Rattle.row_pivots.specs.Steps.{Table, IsTable, table_of, next_of, steps_left}
+use Rattle.row_pivots.specs.Steps.{Table, table_of, next_of, steps_left}
 use Rattle.row_pivots.specs.Tables.{place_of}
 use Rattle.row_pivots.specs.Laws.NextTable.{seen_next}
 use Rattle.row_pivots.specs.Laws.Pivoting.{range_set}
@@ -31,11 +30,11 @@ use Rattle.row_pivots.specs.Laws.Turned.{set_members}
 use Rattle.row_dictionary.specs.Laws.Found.{LeavesAt, EntersAt}
 use Rattle.row_dictionary.specs.Laws.Placing.{range_on}
 use Rattle.row_dictionary.specs.Seen.{swapped}
-use Rattle.row_dictionary.specs.Seen.{Seen, IsOf}
+use Rattle.row_dictionary.specs.Seen.{Seen}
 use Rattle.seq_model.specs.Dictionaries.{free_of, is_in, Form, Has, WideAt}
 use Rattle.seq_model.specs.Systems.{MeetsRows}
 use Rattle.feasible_point.specs.Walked.{Reached, Walks, nums_upto}
-use Rattle.seq_model.specs.Walks.{constant, entries, Leaves, Enters, NothingLeaves, NothingEnters, Pivots, Stops, IsWide, Ends, Follow, Walk, EndsWide}
+use Rattle.seq_model.specs.Walks.{constant, entries, Leaves, Enters, NothingLeaves, NothingEnters, Pivots, Stops, IsWide, Ends, Follow, EndsWide}
 use Rattle.seq_model.specs.declared.row.Row.{Row}
 
 abbrev pub table : ℕ → ℤ → List ℕ → List ℕ → List (List ℤ) → Table

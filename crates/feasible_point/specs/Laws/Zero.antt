@@ -1,5 +1,5 @@
 -- Where the zero point meets all rows, nothing leaves the basis of the slacks, and it is the answer.
-use Rattle.std.proofs.Common.{◌≡◌, ℕ, zero, suc, ◌+◌, ◌<◌, ◌≤◌, List, [], ◌∷◌, ◌++◌, length, map, get_or, All, refl, ap, sym, subst, ◌∙◌, arith, ℤ, pos, ◌+ℤ◌, ◌*ℤ◌, ◌≤ℤ◌, ◌<ℤ◌, ◌⊎◌, inl, inr, Bool, true, false, Some, None}
+use Rattle.std.proofs.Common.{◌≡◌, ℕ, zero, suc, ◌+◌, ◌<◌, ◌≤◌, List, [], ◌∷◌, ◌++◌, length, get_or, refl, ap, sym, subst, ◌∙◌, arith, ℤ, pos, ◌+ℤ◌, ◌*ℤ◌, ◌≤ℤ◌, ◌<ℤ◌, ◌⊎◌, inl, inr, Bool, true, false, None}
 use Rattle.std.proofs.lemmas.Int.{ints}
 use Rattle.std.proofs.lemmas.List.FromFn.{length-range_with_len}
 use Rattle.std.proofs.lemmas.List.Elements.{All-get_or}
@@ -9,7 +9,6 @@ use Rattle.std.specs.List.{range_with_len}
 use lib.Signed.{lt_z_yes}
 use lib.Dec.{T}
 use Rattle.integer_laws.specs.Members.{In}
-use Rattle.integer_laws.specs.Laws.Ring.{expand}
 use Rattle.integer_laws.specs.Laws.Vectors.{dot_comm, dot-zeros}
 use Rattle.integer_laws.specs.Vectors.{dot, zeros}
 use Rattle.row_laws.specs.Laws.Independence.{true_or_false}

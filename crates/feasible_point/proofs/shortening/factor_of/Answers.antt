@@ -1,4 +1,4 @@
-use Rattle.std.proofs.Common.{rules, ◌≡◌, ◌+◌, ℤ, pos, ◌≤ℤ◌, sym, subst, arith, take, SFits, to_z, to_z-of_z}
+use Rattle.std.proofs.Common.{rules, ◌+◌, ℤ, pos, ◌≤ℤ◌, sym, subst, arith, take, SFits, to_z, to_z-of_z}
 use Rattle.std.specs.Int.{w128}
 use Rattle.row_pivots.specs.Ends.{Small}
 use Rattle.feasible_point.specs.Shortening.{IsFactor}

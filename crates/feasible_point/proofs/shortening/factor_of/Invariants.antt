@@ -1,4 +1,4 @@
-use Rattle.std.proofs.Common.{◌≡◌, ℤ, pos, ◌≤ℤ◌, take}
+use Rattle.std.proofs.Common.{pos, ◌≤ℤ◌, take}
 use Rattle.row_pivots.specs.Ends.{Small}
 use Rattle.feasible_point.specs.Shortening.{IsFactor}
 use Rattle.feasible_point.proofs.shortening.factor_of.Given as goal

@@ -1,4 +1,4 @@
-use Rattle.std.proofs.Common.{rules, ◌≡◌, ◌∙◌, ap, sym, subst, SFits, w64, to_z-of_z, suc, length, ◌+◌, arith, pos, IsTrue, Contains}
+use Rattle.std.proofs.Common.{rules, ◌≡◌, ◌∙◌, ap, sym, subst, SFits, w64, to_z-of_z, suc, length, ◌+◌, arith, pos}
 use lib.Dec.{T}
 use Rattle.std.specs.Prelude.{nat_eq, if◌then◌else◌}
 use Rattle.row_dictionary.specs.Laws.Placing.{number_small}

@@ -1,4 +1,4 @@
-use Rattle.std.proofs.Common.{rules, ◌≡◌, ◌<◌, ◌≤◌, ◌∙◌, ◌+◌, ◌++◌, ◌∷◌, [], ap, ap₂, sym, arith, suc, length, get_or, take, take_all, pos, ℤ, List, SFits, w64, to_z-of_z}
+use Rattle.std.proofs.Common.{rules, ◌≡◌, ◌<◌, ◌≤◌, ◌∙◌, ◌+◌, ◌++◌, ◌∷◌, [], ap₂, sym, arith, length, get_or, take_all, pos, ℤ, List, SFits, w64, to_z-of_z}
 use Rattle.std.proofs.lemmas.List.{take_more}
 use Rattle.row_pivots.specs.Growing.{row_line}
 use Rattle.row_dictionary.proofs.Numbers.{small_more, small_all}

@@ -1,4 +1,4 @@
-use Rattle.std.proofs.Common.{◌≡◌, ◌+◌, length, take, All}
+use Rattle.std.proofs.Common.{◌≡◌, length, take, All}
 use Rattle.row_pivots.specs.Ends.{Small}
 use Rattle.row_pivots.specs.Growing.{row_line}
 use Rattle.row_dictionary.proofs.growing.push_numbers.Given as goal

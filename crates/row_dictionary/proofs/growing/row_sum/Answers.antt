@@ -1,4 +1,4 @@
-use Rattle.std.proofs.Common.{rules, ◌≡◌, ◌<◌, ◌≤◌, ◌∙◌, ◌+◌, ap, ap₂, sym, arith, length, get_or, pos, ℤ, List, ◌+ℤ◌, ◌*ℤ◌}
+use Rattle.std.proofs.Common.{rules, ◌<◌, ◌≤◌, ◌∙◌, ap, ap₂, sym, length, get_or, pos, ℤ, List, ◌+ℤ◌, ◌*ℤ◌}
 use Rattle.row_pivots.specs.Growing.{line_over}
 use Rattle.row_dictionary.proofs.RowNumbers.{sum_next, sum_all}
 use Rattle.row_dictionary.proofs.growing.row_sum.Goals as goal

@@ -1,5 +1,4 @@
-use Rattle.std.proofs.Common.{◌≡◌, ◌+◌, ◌++◌, ◌∷◌, [], ap, sym, subst, length, List, ℤ}
-use Rattle.row_pivots.specs.Growing.{row_line}
+use Rattle.std.proofs.Common.{◌+◌, ◌++◌, ◌∷◌, [], sym, subst}
 use Rattle.row_pivots.specs.Laws.Grown.{grown}
 use Rattle.row_pivots.specs.Tables.{Holds}
 use Rattle.row_dictionary.specs.Pushing.{line_of}
