@@ -99,11 +99,13 @@ fn is_refuted_warm(alloc: Global, words: &[&str], extent: u32) -> Result<bool, N
     let decision = decide_by(alloc, &job, extent, 20_000, &mut looker)?;
     let asked = looker.counts();
     match &decision {
-        Decision::Refuted(tree) => Ok(asked
-            == Counts {
-                repairs: looked_at(tree),
-                solves: 0,
-            }),
+        Decision::Refuted(tree) => Ok(
+            asked
+                == Counts {
+                    repairs: looked_at(tree),
+                    solves: 0,
+                },
+        ),
         _ => Ok(false),
     }
 }
