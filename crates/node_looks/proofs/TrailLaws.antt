@@ -30,7 +30,7 @@ use Rattle.seq_model.specs.declared.tree.Choice.TheVariants as Choices
 use Rattle.seq_model.specs.declared.tree.Contact.{Contact}
 use Rattle.seq_model.specs.declared.tree.Dir.{Dir}
 use Rattle.seq_model.specs.declared.tree.Mult.{Mult}
-use Rattle.warm_rows.specs.Warming.{ArePivots, GoesOn, IsRowStep, IsZeroPoint, Repairs, Warmth, row_of, rows_of}
+use Rattle.warm_rows.specs.Warming.{AddsPivots, ArePivots, IsRowStep, IsZeroPoint, Repairs, Warmth, row_of, rows_of}
 use Rattle.warm_rows.specs.declared.step.Step.{Step}
 use Rattle.warm_rows.specs.declared.step.Step.TheVariants as Steps
 use Rattle.warm_rows.specs.declared.step.Warmed.{Warmed}
@@ -209,7 +209,7 @@ stands_more job e k path t u l at is extent levels there = record {
 }
 
 -- a repair
-pub trail_repaired : (job : Job) (t u : Trail) → IsTrail job t → GoesOn t.warm u.warm → u.levels.items ≡ t.levels.items → u.extent ≡ t.extent → u.graph ≡ t.graph → u.orders ≡ t.orders → IsTrail job u
+pub trail_repaired : (job : Job) (t u : Trail) → IsTrail job t → AddsPivots t.warm u.warm → u.levels.items ≡ t.levels.items → u.extent ≡ t.extent → u.graph ≡ t.graph → u.orders ≡ t.orders → IsTrail job u
 trail_repaired job t u is on levels extent graph orders = record {
   vars = on.vars ∙ is.vars;
   rows = subst (λ k. Follows job k u.warm.steps 0 [] u.levels.items) (sym extent) (subst (λ s. Follows job t.extent s 0 [] u.levels.items) (sym on.steps) (subst (Follows job t.extent (t.warm.steps ++ on.pivots) 0 []) (sym levels)

@@ -1,7 +1,7 @@
 -- One step more: where variables stand, the rows, and what is kept.
-use Rattle.std.proofs.Common.{◌≡◌, ℕ, ◌+◌, ◌<◌, ◌^◌, List, [], ◌∷◌, ◌++◌, length, drop, get_or, refl, ap, ap₂, sym, subst, ◌∙◌, arith, ◌⊎◌, inl, inr}
+use Rattle.std.proofs.Common.{◌≡◌, ℕ, suc, ◌+◌, ◌<◌, ◌^◌, List, [], ◌∷◌, ◌++◌, length, drop, get_or, refl, ap, ap₂, sym, subst, ◌∙◌, arith, ◌⊎◌, inl, inr}
 use Rattle.std.specs.List.{range_with_len}
-use Rattle.row_pivots.specs.Laws.Grown.{grown}
+use Rattle.row_pivots.specs.Laws.Grown.{grown, length-more}
 use Rattle.row_pivots.specs.Laws.OneTable.{one_held}
 use Rattle.row_pivots.specs.Laws.Slacks.{slack_table}
 use Rattle.row_pivots.specs.Tables.{Holds}
@@ -117,6 +117,13 @@ kept_more vars steps t u x k fits goes gives count = record { gives = gives; hel
     by : (front : List Step) (step : Step) → ((front ≡ steps) × (step ≡ x)) ⊎ ((rest : List Step) × (steps ≡ front ++ step ∷ rest)) → WasHeld vars front step
     by front step (inl s) = subst (λ (l : List Step). WasHeld vars l step) (sym s.0) (subst (WasHeld vars steps) (sym s.1) here)
     by front step (inr s) = k.held front step s.0 s.1
+
+-- a row more, whose line is that over the table
+pub kept_row : (vars : ℕ) (steps more : List Step) (t u : Seen) (row : Row) → Kept vars steps t → Fits t → length row.a ≡ vars → vars + length (rows_of steps) + 1 < 2 ^ 32 → more ≡ steps ++ Steps.Row row ∷ [] → u ≡ with_row t row → Kept vars more u
+kept_row vars steps more t u row k fits long few steps_are table_is =
+    let longer : length (rows_of (steps ++ Steps.Row row ∷ [])) ≡ suc (length (rows_of steps)) = ap length (rows_of-row steps row) ∙ length-more (rows_of steps) row in
+    let kept = kept_more vars steps t (with_row t row) (Steps.Row row) k fits tt (gives_row vars steps t row k.gives long) (omega (arith, few, longer)) in
+    subst (λ (l : List Step). Kept vars l u) (sym steps_are) (subst (λ (s : Seen). Kept vars (steps ++ Steps.Row row ∷ []) s) (sym table_is) kept)
 
 pub kept_less : (vars : ℕ) (steps : List Step) (t u : Seen) (x : Step) → Kept vars (steps ++ x ∷ []) u → Gives vars steps t → Kept vars steps t
 kept_less vars steps t u x k g = record {

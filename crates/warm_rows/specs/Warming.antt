@@ -1,15 +1,17 @@
 -- What a Warm value is seen as, and what its calls do.
 --
 --   Warmth                    the number of variables, the steps, and the table that they give
---   rows_of steps             the rows of the steps, in their order
---   standing vars steps       where the variables stand after the steps: the slack of a row behind the basic ones, and at a
---                             pivot two have changed places
+--   row_of step, rows_of steps     the row of a step, none of a pivot; the rows of the steps, in their order
+--   after_step vars s step, after_steps     where the variables stand afterwards: the slack of a row behind the basic ones; at a pivot two
+--                             have changed places
+--   standing vars steps       where they stand after steps from a system without rows
 --   Gives vars steps table    what the steps give from a system without rows: the table with the variables there, of their rows
 --   nothing vars              without a step: the table of no rows
+--   with_step w step table    one step more, with the table afterwards
 --   Adds old new row added    what has become of the row
---   ArePivots steps           each of them is a pivot
---   GoesOn old new            some pivots more, and nothing else
---   SomeEndsWide vars rows start     the walk from a start ends before a wide basis
+--   IsRowStep step, IsPivot step, ArePivots steps     it is a row; it is a pivot; each of them is one
+--   AddsPivots old new        some pivots more, and nothing else
+--   SomeEndsWide vars rows start, WalksWide w     the walk from a start, from the basis of the table, ends before a wide basis
 --   Repairs old new warmed    the walk from the old basis, and what its end shows of the rows
 --   IsZeroPoint vars warmed   it is the point of which all coordinates are 0, over 1
 use Rattle.std.specs.Prelude.{◌≡◌, ℕ, suc, ◌+◌, ◌<◌, ◌≤◌, ◌^◌, List, [], ◌∷◌, ◌++◌, pos, ◌≤ℤ◌, ◌<ℤ◌, All, length, map}
@@ -81,7 +83,7 @@ IsPivot (Steps.Pivot leaving entering) = Unit {0}
 abbrev pub ArePivots : List Step → Type 0
 ArePivots steps = All IsPivot steps
 
-pub record GoesOn (old new : Warmth) : Type 0 where
+pub record AddsPivots (old new : Warmth) : Type 0 where
   pub vars : new.vars ≡ old.vars
   pub pivots : List Step
   pub are : ArePivots pivots

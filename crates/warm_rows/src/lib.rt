@@ -6,8 +6,8 @@
 //! That no pivot back is refused comes from `Kept` in `specs/Keeping.antt`: each step went from a dictionary that was held.
 //!
 //! `repair` walks by the least-index rule from the basis that it finds. It answers as `feasible_point::solve` does, and is
-//! `Cold` where that walk ends before a wide basis; `add` is `Cold` where the row over the present basis has a number of
-//! 2^62 or more. The search keeps one for an extent, and solves from scratch where it is cold.
+//! `Cold` where that walk ends before a wide basis; `add` is `Cold` where the row over the present basis, times the
+//! denominator, has a number of 2^62 or more. The search keeps one for an extent, and solves from scratch where it is cold.
 #![tactic(auto)]
 
 ghost use Rattle.std.specs.Prelude.{◌≡◌, ℕ, List};

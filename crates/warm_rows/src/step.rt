@@ -20,7 +20,7 @@ pub struct Mark {
 pub enum Added {
     /// It is one of the rows.
     Held,
-    /// Over the present basis it has a number of 2^62 or more, and wasn't added.
+    /// Over the present basis, times the denominator, it has a number of 2^62 or more, and wasn't added.
     Cold,
 }
 

@@ -2,7 +2,8 @@ ghost use Rattle.std.specs.Prelude.{◌≡◌, ◌+◌, ◌<◌, ◌≤◌, ◌^
 ghost use Rattle.integer_laws.specs.Vectors.{zeros};
 ghost use Rattle.row_dictionary.specs.Scans.{IsSmallRow};
 ghost use Rattle.seq_model.specs.Systems.{MeetsRows};
-ghost use Rattle.warm_rows.specs.Warming.{Adds, Gives, GoesOn, IsRowStep, IsZeroPoint, Repairs, nothing, rows_of};
+ghost use Rattle.warm_rows.specs.Keeping.{Kept};
+ghost use Rattle.warm_rows.specs.Warming.{Adds, AddsPivots, Gives, IsRowStep, IsZeroPoint, Repairs, nothing, rows_of};
 
 use crate::answering::answer;
 use crate::step::{Added, Mark, Step, Warmed};
@@ -75,14 +76,17 @@ impl Warm {
 
     /// How many steps there are now.
     pub fn mark(&self) -> Mark
-        ensures { result.steps ≡ length self.now.steps }
+        ensures is { result.steps ≡ length self.now.steps }
+        ensures kept { Kept self.now.vars self.now.steps self.now.table }
     {
-        Mark { steps: self.len() }
+        Mark {
+            steps: self.steps.len(),
+        }
     }
 
     fn len(&self) -> usize
         ensures is { result ≡ length self.now.steps }
-        ensures gives { Gives self.now.vars self.now.steps self.now.table }
+        ensures kept { Kept self.now.vars self.now.steps self.now.table }
     {
         self.steps.len()
     }
@@ -92,7 +96,7 @@ impl Warm {
         requires { mark.steps ≤ length self.old.steps }
         ensures vars { self.new.vars ≡ self.old.vars }
         ensures steps { self.new.steps ≡ take mark.steps self.old.steps }
-        ensures gives { Gives self.new.vars self.new.steps self.new.table }
+        ensures kept { Kept self.new.vars self.new.steps self.new.table }
     {
         while self.len() > mark.steps {
             self.undo();
@@ -121,6 +125,7 @@ impl Warm {
         requires count { self.old.vars + length (rows_of self.old.steps) + 1 < 2 ^ 32 }
         ensures is { IfOk result (Adds self.old self.new row.now) }
         ensures unchanged { OnErr result (self.new ≡ self.old) }
+        ensures kept { Kept self.new.vars self.new.steps self.new.table }
     {
         self.steps.reserve(1)?;
         let copy = copy_of(alloc, row)?;
@@ -135,7 +140,8 @@ impl Warm {
 
     /// A point that meets all rows, or a contradiction of them, by the walk from the present basis.
     pub fn repair(&mut self, alloc: Global) -> Result<Warmed, NoMemory>
-        ensures goes_on { GoesOn self.old self.new }
+        ensures goes_on { AddsPivots self.old self.new }
+        ensures kept { Kept self.new.vars self.new.steps self.new.table }
         ensures is { IfOk result (Repairs self.old self.new) }
         ensures zero { All IsRowStep self.old.steps
             → MeetsRows (rows_of self.old.steps) (pos 1) (zeros self.old.vars)

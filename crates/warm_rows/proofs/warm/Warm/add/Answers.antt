@@ -1,30 +1,33 @@
-use Rattle.std.proofs.Common.{rules, ◌≡◌, ◌∙◌, suc, ◌+◌, ◌<◌, ◌^◌, ◌++◌, ◌∷◌, [], List, All, length, arith, refl, sym, ap, subst}
+use Rattle.std.proofs.Common.{rules, ◌≡◌, ◌∙◌, ◌+◌, ◌<◌, ◌^◌, ◌++◌, ◌∷◌, [], List, All, length, refl, sym, ap, subst}
 use Rattle.row_pivots.specs.Ends.{Small}
-use Rattle.row_pivots.specs.Laws.Grown.{length-more}
 use Rattle.row_dictionary.specs.Pushing.{line_of, with_row}
-use Rattle.row_dictionary.specs.Seen.{Seen}
-use Rattle.warm_rows.specs.Keeping.{Kept}
 use Rattle.warm_rows.specs.Warming.{Warmth, rows_of}
 use Rattle.warm_rows.specs.declared.step.Step.{Step}
 use Rattle.warm_rows.specs.declared.step.Step.TheVariants as Steps
-use Rattle.warm_rows.proofs.Steps.{same_warmth, gives_row, rows_of-row, kept_more}
+use Rattle.warm_rows.proofs.Steps.{same_warmth, kept_row}
 use Rattle.warm_rows.proofs.warm.Warm.add.Goals as goal
 
 pub invariant_of-self-in-Held : goal.invariant_of-self-in-Held
 invariant_of-self-in-Held c =
     let s = c.self.inside in
-    let row = c.args.row.now in
     let steps : c.push_step.new.steps.items ≡ c.self.inside.steps.items ++ Steps.Row c.args.row.now ∷ [] = search rules in
     let table : c.push.new.self ≡ with_row c.self.inside.dictionary c.args.row.now = search rules in
-    let table_vars : c.self.inside.vars ≡ c.args.self.now.vars = ap (λ (w : Warmth). w.vars) c.self.view_is in
+    let vars_are : c.self.inside.vars ≡ c.args.self.now.vars = ap (λ (w : Warmth). w.vars) c.self.view_is in
     let steps_are : c.self.inside.steps.items ≡ c.args.self.now.steps = ap (λ (w : Warmth). w.steps) c.self.view_is in
-    let long : length c.args.row.now.a ≡ c.self.inside.vars = c.requires.long ∙ sym table_vars in
     let few : c.self.inside.vars + length (rows_of c.self.inside.steps.items) + 1 < 2 ^ 32 =
-    subst (λ v. v + length (rows_of c.self.inside.steps.items) + 1 < 2 ^ 32) (sym table_vars) (subst (λ (l : List Step). c.args.self.now.vars + length (rows_of l) + 1 < 2 ^ 32) (sym steps_are) c.requires.count) in
-    let more : length (rows_of (c.self.inside.steps.items ++ Steps.Row c.args.row.now ∷ [])) ≡ suc (length (rows_of c.self.inside.steps.items)) = ap length (rows_of-row s.steps.items row) ∙ length-more (rows_of s.steps.items) row in
-    let gives = gives_row s.vars s.steps.items s.dictionary row c.self.invariant.gives long in
-    let kept = kept_more s.vars s.steps.items s.dictionary (with_row s.dictionary row) (Steps.Row row) c.self.invariant c.in_ok-push.ensures.fits tt gives (omega (arith, few, more)) in
-    subst (λ (l : List Step). Kept c.self.inside.vars l c.push.new.self) (sym steps) (subst (λ (t : Seen). Kept c.self.inside.vars (c.self.inside.steps.items ++ Steps.Row c.args.row.now ∷ []) t) (sym table) kept)
+    subst (λ v. v + length (rows_of c.self.inside.steps.items) + 1 < 2 ^ 32) (sym vars_are) (subst (λ (l : List Step). c.args.self.now.vars + length (rows_of l) + 1 < 2 ^ 32) (sym steps_are) c.requires.count) in
+    kept_row s.vars s.steps.items c.push_step.new.steps.items s.dictionary c.push.new.self c.args.row.now c.self.invariant c.in_ok-push.ensures.fits (c.requires.long ∙ sym vars_are) few steps table
+
+pub returns-in-Held-clause-kept : goal.returns-in-Held-clause-kept
+returns-in-Held-clause-kept c =
+    let s = c.self.inside in
+    let steps : c.push_step.new.steps.items ≡ c.self.inside.steps.items ++ Steps.Row c.args.row.now ∷ [] = search rules in
+    let table : c.push.new.self ≡ with_row c.self.inside.dictionary c.args.row.now = search rules in
+    let vars_are : c.self.inside.vars ≡ c.args.self.now.vars = ap (λ (w : Warmth). w.vars) c.self.view_is in
+    let steps_are : c.self.inside.steps.items ≡ c.args.self.now.steps = ap (λ (w : Warmth). w.steps) c.self.view_is in
+    let few : c.self.inside.vars + length (rows_of c.self.inside.steps.items) + 1 < 2 ^ 32 =
+    subst (λ v. v + length (rows_of c.self.inside.steps.items) + 1 < 2 ^ 32) (sym vars_are) (subst (λ (l : List Step). c.args.self.now.vars + length (rows_of l) + 1 < 2 ^ 32) (sym steps_are) c.requires.count) in
+    kept_row s.vars s.steps.items c.push_step.new.steps.items s.dictionary c.push.new.self c.args.row.now c.self.invariant c.in_ok-push.ensures.fits (c.requires.long ∙ sym vars_are) few steps table
 
 pub returns-in-TooWide-clause-is : goal.returns-in-TooWide-clause-is
 returns-in-TooWide-clause-is c =
