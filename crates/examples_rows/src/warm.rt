@@ -1,6 +1,7 @@
 use crate::rows::rows_of;
 use row_dictionary::{are_rows_of, are_small_rows};
 use std::alloc::Global;
+use std::test::Fail;
 use warm_rows::{Added, Mark, Warm, Warmed};
 
 const BIG: i64 = 1 << 61;
@@ -192,12 +193,11 @@ fn go_on(
 }
 
 #[test]
-fn one_value_for_many_systems(rt: HostRuntime) {
-    let Ok(mut warm) = Warm::new(rt.alloc(), 2) else {
-        return;
-    };
+fn one_value_for_many_systems(rt: HostRuntime) -> Result<(), Fail> {
+    let mut warm = Warm::new(rt.alloc(), 2)?;
     for (steps, rows, held, found, after) in &WARMED {
         assert!(rt; go_on(rt.alloc(), &mut warm, *steps, rows) == Some((*held, *found)));
         assert!(rt; warm.mark().steps == *after);
     }
+    Ok(())
 }

@@ -10,11 +10,11 @@ returns-in-Err-clause-is c =
 pub returns-clause-is : goal.returns-clause-is
 returns-clause-is c =
     let may = c.may_hold.ensures c.if-not-may_hold.false in
-    order_entered c.args.job.now c.args.k c.args.path.now c.args.self.now c.push.new.self _ c.args.i c.args.j c.requires.at c.requires.choice refl may.0 may.1 c.mark-before.ensures c.push.ensures.extent c.push.ensures.warm
+    order_entered c.args.job.now c.args.k c.args.path.now c.args.self.now c.push.new.self _ c.args.i c.args.j c.requires.at c.requires.choice refl may.0 may.1 c.mark-before.ensures.is c.push.ensures.extent c.push.ensures.warm
     (c.push.ensures.graph ∙ c.in_default.ensures.held) c.push.ensures.orders c.in_ok-push.ensures.levels
 
 pub returns-clause-stays : goal.returns-clause-stays
 returns-clause-stays c =
     let may = c.may_hold.ensures c.if-not-may_hold.false in
-    (order_entered c.args.job.now c.args.k c.args.path.now c.args.self.now c.push.new.self _ c.args.i c.args.j c.requires.at c.requires.choice refl may.0 may.1 c.mark-before.ensures c.push.ensures.extent c.push.ensures.warm
+    (order_entered c.args.job.now c.args.k c.args.path.now c.args.self.now c.push.new.self _ c.args.i c.args.j c.requires.at c.requires.choice refl may.0 may.1 c.mark-before.ensures.is c.push.ensures.extent c.push.ensures.warm
     (c.push.ensures.graph ∙ c.in_default.ensures.held) c.push.ensures.orders c.in_ok-push.ensures.levels).trail

@@ -33,10 +33,10 @@ pub returns-clause-is : goal.returns-clause-is
 returns-clause-is c =
     let adds = rw c.in-Held.is at c.in_ok-add.ensures.is in
     side_entered c.args.job.now c.args.k c.args.path.now c.args.self.now _ _ c.add.new.self c.in_ok-row.row c.requires.at c.requires.choice (ap (λ (r : Row). r ∷ []) (c.in_ok-row.ensures c.args.self.now.extent)) refl
-    (ap (λ (w : Warmth). w.vars) adds.1) (ap (λ (w : Warmth). w.steps) adds.1) c.mark-before.ensures c.push.ensures.extent c.push.ensures.warm c.push.ensures.graph c.push.ensures.orders c.in_ok-push-in-Held.ensures.levels
+    (ap (λ (w : Warmth). w.vars) adds.1) (ap (λ (w : Warmth). w.steps) adds.1) c.mark-before.ensures.is c.push.ensures.extent c.push.ensures.warm c.push.ensures.graph c.push.ensures.orders c.in_ok-push-in-Held.ensures.levels
 
 pub returns-clause-stays : goal.returns-clause-stays
 returns-clause-stays c =
     let adds = rw c.in-Held.is at c.in_ok-add.ensures.is in
     (side_entered c.args.job.now c.args.k c.args.path.now c.args.self.now _ _ c.add.new.self c.in_ok-row.row c.requires.at c.requires.choice (ap (λ (r : Row). r ∷ []) (c.in_ok-row.ensures c.args.self.now.extent)) refl
-    (ap (λ (w : Warmth). w.vars) adds.1) (ap (λ (w : Warmth). w.steps) adds.1) c.mark-before.ensures c.push.ensures.extent c.push.ensures.warm c.push.ensures.graph c.push.ensures.orders c.in_ok-push-in-Held.ensures.levels).trail
+    (ap (λ (w : Warmth). w.vars) adds.1) (ap (λ (w : Warmth). w.steps) adds.1) c.mark-before.ensures.is c.push.ensures.extent c.push.ensures.warm c.push.ensures.graph c.push.ensures.orders c.in_ok-push-in-Held.ensures.levels).trail
