@@ -1,4 +1,4 @@
-use crate::rows::rows_of;
+use crate::rows::{lone_rows_of, rows_of};
 use row_dictionary::{Dictionary, Pushed, are_rows_of, are_small_rows};
 use std::alloc::Global;
 
@@ -118,19 +118,19 @@ fn two_pivots_leave_no_old_denominator(rt: HostRuntime) {
 
 // The constant of the row's slack; then, once the row is gone again, the denominator and whether the variable 0 is basic.
 fn pushed_and_popped(alloc: Global, row: (i64, [i64; 2])) -> Option<(i64, i64, bool)> {
-    let Ok(rows) = rows_of(alloc, &[row]) else {
+    let Ok(rows) = lone_rows_of(alloc, &[row]) else {
         return None;
     };
-    if rows.len() != 1 || !are_rows_of(2, &rows) || !are_small_rows(&rows) {
+    if rows.len() != 1 || !are_rows_of(1, &rows) || !are_small_rows(&rows) {
         return None;
     }
-    let Ok(mut dictionary) = Dictionary::of(alloc, 2, &[]) else {
+    let Ok(mut dictionary) = Dictionary::of(alloc, 1, &[]) else {
         return None;
     };
     let Ok(Pushed::Held) = dictionary.push(alloc, &rows[0]) else {
         return None;
     };
-    let constant = dictionary.constant(2);
+    let constant = dictionary.constant(1);
     dictionary.pop();
     Some((constant, dictionary.den(), dictionary.is_basic(0)))
 }

@@ -1,5 +1,6 @@
-use crate::rows::rows_of;
+use crate::rows::{lone_rows_of, rows_of};
 use row_dictionary::{are_rows_of, are_small_rows};
+use seq_model::Row;
 use std::alloc::Global;
 use std::test::Fail;
 use warm_rows::{Added, Mark, Warm, Warmed};
@@ -112,6 +113,13 @@ static WARMED: [(usize, &[(i64, [i64; 2])], usize, Found, usize); 12] = [
 fn found_in(warmed: &Warmed) -> Found {
     match warmed {
         Warmed::Point { den, nums } => {
+            if nums.len() == 1 {
+                return Found::Point {
+                    den: *den,
+                    x: nums[0],
+                    y: 0,
+                };
+            }
             if nums.len() == 2 {
                 return Found::Point {
                     den: *den,
@@ -144,15 +152,23 @@ pub fn undo(warm: &mut Warm, steps: usize) -> Option<()> {
     Some(())
 }
 
+fn rows_over(alloc: Global, vars: u32, row: (i64, [i64; 2])) -> Option<Vec<Row>> {
+    if vars == 1 {
+        return lone_rows_of(alloc, &[row]).ok();
+    }
+    rows_of(alloc, &[row]).ok()
+}
+
 // Whether the row is held.
 fn add(alloc: Global, warm: &mut Warm, row: (i64, [i64; 2])) -> Option<bool> {
-    let Ok(rows) = rows_of(alloc, &[row]) else {
+    let vars = warm.vars();
+    let Some(rows) = rows_over(alloc, vars, row) else {
         return None;
     };
-    if rows.len() != 1 || !are_rows_of(2, &rows) || !are_small_rows(&rows) {
+    if rows.len() != 1 || !are_rows_of(vars, &rows) || !are_small_rows(&rows) {
         return None;
     }
-    if warm.vars() != 2 || warm.count() > 100 {
+    if vars > 2 || warm.count() > 100 {
         return None;
     }
     match warm.add(alloc, &rows[0]) {
@@ -196,6 +212,17 @@ fn go_on(
 fn one_value_for_many_systems(rt: HostRuntime) -> Result<(), Fail> {
     let mut warm = Warm::new(rt.alloc(), 2)?;
     for (steps, rows, held, found, after) in &WARMED {
+        assert!(rt; go_on(rt.alloc(), &mut warm, *steps, rows) == Some((*held, *found)));
+        assert!(rt; warm.mark().steps == *after);
+    }
+    Ok(())
+}
+
+// The first rows have no second variable.
+#[test]
+fn one_value_for_systems_of_one_variable(rt: HostRuntime) -> Result<(), Fail> {
+    let mut warm = Warm::new(rt.alloc(), 1)?;
+    for (steps, rows, held, found, after) in &WARMED[..5] {
         assert!(rt; go_on(rt.alloc(), &mut warm, *steps, rows) == Some((*held, *found)));
         assert!(rt; warm.mark().steps == *after);
     }
