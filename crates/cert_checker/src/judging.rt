@@ -30,7 +30,8 @@ pub enum Judged {
 // The first rule of a side split but for the number of its children.
 fn side_rule(job: &Job, trail: &Trail, contact: &Contact) -> Option<Rule>
     requires { IsFit trail.now }
-    ensures { (e children : ℕ) → IsOwnRule job.now e trail.now.path.items (Nodes.Side contact.now children) result }
+    ensures { (e children : ℕ)
+        → IsOwnRule job.now e trail.now.path.items (Nodes.Side contact.now children) result }
 {
     if !exists(job, contact) {
         return Some(Rule::Contact);

@@ -255,7 +255,8 @@ impl Table {
     }
 
     fn order_range(&mut self, i: u32, j: u32) -> Result<Range, AllocError>
-        ensures range { IfOk result (λ r. (job : Job) → HasRange job self.new.choices.items (Nodes.Order i j) r) }
+        ensures range { IfOk result (λ r.
+            (job : Job) → HasRange job self.new.choices.items (Nodes.Order i j) r) }
         ensures grown { OnOk result (Grows self.old self.new) }
         ensures rows { (job : Job) → IsTable job self.old → OnOk result (IsTable job self.new) }
     {
@@ -292,7 +293,8 @@ impl Table {
     }
 
     fn ranges(&mut self, alloc: Global, job: &Job, nodes: &[Node]) -> Result<Vec<Range>, NoMemory>
-        ensures ranges { IfOk result (λ ranges. AreRanges job.now self.new.choices.items nodes.now ranges.items) }
+        ensures ranges { IfOk result (λ ranges.
+            AreRanges job.now self.new.choices.items nodes.now ranges.items) }
         ensures rows { IsTable job.now self.old → OnOk result (IsTable job.now self.new) }
     {
         let mut ranges = Vec::with_capacity(alloc, nodes.len())?;

@@ -164,7 +164,8 @@ impl Trail {
         requires room { HasRoom self.old (length self.old.path.items + 1) }
         ensures path { self.new.path.items ≡ self.old.path.items ++ choice.now ∷ [] }
         ensures fit { IsFit self.new }
-        ensures rows { (job : Job) → HasRows job self.old → IsRowFor job choice.now row.now → HasRows job self.new }
+        ensures rows { (job : Job) → HasRows job self.old → IsRowFor job choice.now row.now
+            → HasRows job self.new }
         ensures room { (n : ℕ) → HasRoom self.old n → HasRoom self.new n }
     {
         match choice {

@@ -69,7 +69,9 @@ fn lies_on_line(from: &Spot, to: &Spot, at: &RatPoint) -> bool
     requires from { IsNarrow from.now }
     requires to { IsNarrow to.now }
     requires at { FitsProducts at.now }
-    ensures { result ≡ int_eq (value (raw from.now to.now) at.now) (along (raw from.now to.now) from.now *ℤ at.now.d) }
+    ensures { result ≡ int_eq
+        (value (raw from.now to.now) at.now)
+        (along (raw from.now to.now) from.now *ℤ at.now.d) }
 {
     let out = edge(from, to, false);
     value_at(&out, at) == limit_at(value_along(&out, from), at)

@@ -33,7 +33,8 @@ fn support_of_zones(dir: &Dir, a: &Zone, b: &Zone, part: &Part) -> i64
     requires a { IsSoundZone a.now }
     requires b { IsSoundZone b.now }
     requires part { IsSoundPart part.now }
-    ensures value { result ≡ greatest_along dir.now (difference a.now.corners b.now.corners part.now.corners) }
+    ensures value { result
+        ≡ greatest_along dir.now (difference a.now.corners b.now.corners part.now.corners) }
     ensures size { unsigned_abs result < 2 ^ 46 }
 {
     support_along(

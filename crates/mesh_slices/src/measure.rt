@@ -57,7 +57,10 @@ fn bands_of(height: i64, step: i64) -> u64
 pub fn measure_of(printer: &Printer, facets: &[Facet]) -> Measure
     requires near { All IsNearFacet facets.now }
     requires some { 0 < length facets.now }
-    ensures spans { Spans (band_count facets.now printer.now.step) (spots_in printer.now facets.now) result.low result.high }
+    ensures spans { Spans
+        (band_count facets.now printer.now.step)
+        (spots_in printer.now facets.now)
+        result.low result.high }
     ensures bottom { result.bottom ≡ least_z facets.now }
     ensures bottom_near { unsigned_abs result.bottom ≤ 10_000_000 }
     ensures height { result.height ≡ height_of facets.now }

@@ -1,8 +1,8 @@
-ghost use Rattle.std.specs.Prelude.{◌≡◌, ◌++◌, [], ◌∷◌, ◌≤◌, ◌<ℤ◌, ◌≤ℤ◌, pos, ◌+ℤ◌, ◌*ℤ◌, ◌-ℤ◌, ◌&&◌, unsigned_abs, IfOk, OnOk, IsTrue};
+ghost use Rattle.std.specs.Prelude.{◌≡◌, [], ◌∷◌, ◌≤◌, ◌<ℤ◌, ◌≤ℤ◌, pos, ◌+ℤ◌, ◌*ℤ◌, ◌-ℤ◌, ◌&&◌, unsigned_abs, IfOk, OnOk, IsTrue};
 ghost use Rattle.std.specs.Int.Signed.{lt_z, le_z};
 ghost use Rattle.seq_model.specs.Bands.{vertex_in, crossing_up, crossings, facet_corners};
 ghost use Rattle.seq_model.specs.Bounds.{IsNear, IsNearFacet};
-ghost use Rattle.mesh_slices.specs.CornerPoints.{as_point, points_of};
+ghost use Rattle.mesh_slices.specs.CornerPoints.{as_point, points_of, Adds};
 
 use crate::corner::{CornerPoint, Slab};
 use seq_model::{Facet, Point3};
@@ -88,7 +88,8 @@ fn goes_up_through(height: i64, from: i64, to: i64) -> bool
 // Adds a vertex that lies in the band.
 fn add_vertex(points: &mut CornerPoints, p: &Point3, slab: &Slab) -> Result<(), AllocError>
     requires { IsNear p.now }
-    ensures { OnOk result (points_of points.new.items ≡ points_of points.old.items ++ vertex_in slab.now.low slab.now.high p.now) }
+    ensures { OnOk result (Adds points.old.items points.new.items
+        (vertex_in slab.now.low slab.now.high p.now)) }
 {
     if holds(slab, p.z) {
         points.push(point_at(p))?;
@@ -105,7 +106,7 @@ fn add_crossing(
 ) -> Result<(), AllocError>
     requires from { IsNear from.now }
     requires to { IsNear to.now }
-    ensures { OnOk result (points_of points.new.items ≡ points_of points.old.items ++ crossing_up height from.now to.now) }
+    ensures { OnOk result (Adds points.old.items points.new.items (crossing_up height from.now to.now)) }
 {
     if goes_up_through(height, from.z, to.z) {
         points.push(crossing_of(height, from, to))?;
@@ -116,7 +117,7 @@ fn add_crossing(
 // Adds the crossings of a height by the edges of a facet.
 fn add_crossings(points: &mut CornerPoints, height: i64, f: &Facet) -> Result<(), AllocError>
     requires { IsNearFacet f.now }
-    ensures { OnOk result (points_of points.new.items ≡ points_of points.old.items ++ crossings height f.now) }
+    ensures { OnOk result (Adds points.old.items points.new.items (crossings height f.now)) }
 {
     add_crossing(points, height, &f.a, &f.b)?;
     add_crossing(points, height, &f.b, &f.a)?;
@@ -128,14 +129,14 @@ fn add_crossings(points: &mut CornerPoints, height: i64, f: &Facet) -> Result<()
 
 fn add_lower_crossings(points: &mut CornerPoints, f: &Facet, slab: &Slab) -> Result<(), AllocError>
     requires { IsNearFacet f.now }
-    ensures { OnOk result (points_of points.new.items ≡ points_of points.old.items ++ crossings slab.now.low f.now) }
+    ensures { OnOk result (Adds points.old.items points.new.items (crossings slab.now.low f.now)) }
 {
     add_crossings(points, slab.low, f)
 }
 
 fn add_upper_crossings(points: &mut CornerPoints, f: &Facet, slab: &Slab) -> Result<(), AllocError>
     requires { IsNearFacet f.now }
-    ensures { OnOk result (points_of points.new.items ≡ points_of points.old.items ++ crossings slab.now.high f.now) }
+    ensures { OnOk result (Adds points.old.items points.new.items (crossings slab.now.high f.now)) }
 {
     add_crossings(points, slab.high, f)
 }
@@ -143,7 +144,8 @@ fn add_upper_crossings(points: &mut CornerPoints, f: &Facet, slab: &Slab) -> Res
 /// The corner points of a facet in a band.
 pub fn corner_points(alloc: Global, f: &Facet, slab: &Slab) -> Result<CornerPoints, AllocError>
     requires { IsNearFacet f.now }
-    ensures { IfOk result (λ points. points_of points.items ≡ facet_corners slab.now.low slab.now.high f.now) }
+    ensures { IfOk result (λ points. points_of points.items
+        ≡ facet_corners slab.now.low slab.now.high f.now) }
 {
     let mut points = SmallVec::new(alloc);
     add_vertex(&mut points, &f.a, slab)?;

@@ -13,7 +13,8 @@ ghost use Rattle.model_laws.specs.Collisions.{ByBands, ByContact};
 pub fn objects_collide_by_a_contact()
     ensures if_a_contact_does { (job : Job) (c : Contact) (p r : Point) → ContactCollides job c p r
         → Collides (scene_of_job job) c.i p c.j r }
-    ensures only_then { (job : Job) (i j : ℕ) (p r : Point) → i ≢ j → Collides (scene_of_job job) i p j r → ByContact job i j p r }
+    ensures only_then { (job : Job) (i j : ℕ) (p r : Point) → i ≢ j → Collides (scene_of_job job) i p j r
+        → ByContact job i j p r }
 {}
 
 /// A contact collides just where the spots of some bands of its two zones do, which meet by its part: what is asked of the

@@ -11,7 +11,8 @@ ghost use Rattle.model_laws.specs.SamePoints.{SamePlaces};
 /// A mean is of a point, over whatever denominator: so a point is inner to spots, or within them, where the same point over another
 /// denominator is.
 pub fn a_mean_is_of_a_point()
-    ensures { (least : ℤ) (S : List Spot) (p q : Point) → IsPoint q → SamePoint p q → IsMean least S p → IsMean least S q }
+    ensures { (least : ℤ) (S : List Spot) (p q : Point) → IsPoint q → SamePoint p q → IsMean least S p
+        → IsMean least S q }
 {}
 
 /// So are collisions: what overlaps, or collides, at two points does so at the same points over other denominators.

@@ -7,5 +7,6 @@ ghost use Rattle.seq_model.specs.declared.tree.Mult.{Mult};
 
 /// No point meets rows that have a contradiction.
 pub fn no_point_meets_a_contradiction()
-    ensures { (rows : List Row) (mults : List Mult) → Contradiction rows mults → (d : ℤ) (u : List ℤ) → MeetsRows rows d u → ⊥ }
+    ensures { (rows : List Row) (mults : List Mult) → Contradiction rows mults → (d : ℤ) (u : List ℤ)
+        → MeetsRows rows d u → ⊥ }
 {}

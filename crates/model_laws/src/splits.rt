@@ -8,5 +8,6 @@ ghost use Rattle.seq_model.specs.declared.tree.Node.{Node};
 
 /// What a search may split, a certificate may hold.
 pub fn earned_splits_are_grounded()
-    ensures { (job : Job) (e : ℕ) (path : List Choice) (node : Node) → Earned job e path node → Grounded job e path node }
+    ensures { (job : Job) (e : ℕ) (path : List Choice) (node : Node) → Earned job e path node
+        → Grounded job e path node }
 {}

@@ -30,7 +30,8 @@ pub fn a_tree_refutes_by_its_root()
         ↔ ((below ≡ []) × IsCycle (λ a b. Contains path (Choices.Before a b)) objects) }
     ensures order { (job : Job) (e : ℕ) (path : List Choice) (i j : ℕ) (below : List Node)
         → Refutes job e path (Nodes.Order i j ∷ below) ↔ OrderRefutes job e path i j below }
-    ensures side { (job : Job) (e : ℕ) (path : List Choice) (contact : Contact) (children : ℕ) (below : List Node)
+    ensures side { (job : Job) (e : ℕ) (path : List Choice)
+        (contact : Contact) (children : ℕ) (below : List Node)
         → Refutes job e path (Nodes.Side contact children ∷ below)
         ↔ SideRefutes job e path contact children below }
     ensures pending { (job : Job) (e : ℕ) (path : List Choice) (below : List Node)

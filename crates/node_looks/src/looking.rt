@@ -100,7 +100,8 @@ fn solve_path(alloc: Global, asked: &Question, rows: &[Row]) -> Result<Solved, N
     ensures is { IfOk result (Solves (2 * length asked.now.job.now.objects) (system_of asked.now)) }
     ensures shortest { IfOk result IsShortest }
     ensures den { IfOk result HasSmallDen }
-    ensures zero { IsZeroQuestion asked.now → IfOk result (IsZeroPoint (2 * length asked.now.job.now.objects)) }
+    ensures zero { IsZeroQuestion asked.now
+        → IfOk result (IsZeroPoint (2 * length asked.now.job.now.objects)) }
 {
     solve(alloc, 2 * asked.job.objects.len() as u32, rows)
 }
@@ -249,7 +250,8 @@ fn trail_for(
     requires low { 1 ≤ extent }
     requires high { extent ≤ job.now.printer.grid }
     requires kept { IsKept job.now kept }
-    ensures { IfOk result (λ made. IfSome made (λ kept. IsTrail job.now kept.value × (kept.value.extent ≡ extent))) }
+    ensures { IfOk result (λ made. IfSome made (λ kept.
+        IsTrail job.now kept.value × (kept.value.extent ≡ extent))) }
 {
     if let Some(trail) = kept {
         if trail.extent == extent {

@@ -15,7 +15,8 @@ use seq_model::Choice;
 // Notes an order between objects below 16.
 fn note_order(table: &mut [bool; 256], i: u32, j: u32)
     requires { length table.old ≡ 256 }
-    ensures { (path : List Choice) → IsTable path table.old → IsTable (path ++ Choices.Before i j ∷ []) table.new }
+    ensures { (path : List Choice) → IsTable path table.old
+        → IsTable (path ++ Choices.Before i j ∷ []) table.new }
 {
     if i >= 16 {
         return;

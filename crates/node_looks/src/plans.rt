@@ -51,7 +51,8 @@ fn coordinate_x(at: &SolvedPoint, object: usize, corner: &Spot, low: &Spot) -> i
     requires den { unsigned_abs at.now.den < 2 ^ 62 }
     requires corner { IsNearSpot 40_000 corner.now }
     requires low { IsNearSpot 1_001_000 low.now }
-    ensures value { result ≡ slice_index_or at.now.nums.now (2 * object) (pos 0) +ℤ at.now.den *ℤ (corner.now.x -ℤ low.now.x) }
+    ensures value { result ≡ slice_index_or at.now.nums.now (2 * object) (pos 0)
+        +ℤ at.now.den *ℤ (corner.now.x -ℤ low.now.x) }
     ensures size { unsigned_abs result < 2 ^ 90 }
 {
     coordinate(at.nums[2 * object], at.den, corner.x, low.x)
@@ -62,7 +63,8 @@ fn coordinate_y(at: &SolvedPoint, object: usize, corner: &Spot, low: &Spot) -> i
     requires den { unsigned_abs at.now.den < 2 ^ 62 }
     requires corner { IsNearSpot 40_000 corner.now }
     requires low { IsNearSpot 1_001_000 low.now }
-    ensures value { result ≡ slice_index_or at.now.nums.now (2 * object + 1) (pos 0) +ℤ at.now.den *ℤ (corner.now.y -ℤ low.now.y) }
+    ensures value { result ≡ slice_index_or at.now.nums.now (2 * object + 1) (pos 0)
+        +ℤ at.now.den *ℤ (corner.now.y -ℤ low.now.y) }
     ensures size { unsigned_abs result < 2 ^ 90 }
 {
     coordinate(at.nums[2 * object + 1], at.den, corner.y, low.y)
@@ -182,7 +184,8 @@ pub(crate) fn plan_at(alloc: Global, site: &Site, order: &[u32]) -> Result<Plan,
     requires known { All (λ o. o < length site.now.job.now.objects) order.now }
     requires valid { Valid (scene_of_job site.now.job.now) site.now.extent (plan_of_site site.now order.now) }
     ensures found { IfOk result (IsFound site.now.job.now site.now.extent) }
-    ensures unscaled { site.now.at.den ≡ pos 1 → IfOk result (λ plan. plan ≡ plan_of_site site.now order.now) }
+    ensures unscaled { site.now.at.den ≡ pos 1
+        → IfOk result (λ plan. plan ≡ plan_of_site site.now order.now) }
 {
     let places = places(alloc, site, order)?;
     let plan = reduced(alloc, &site.at, &places)?;

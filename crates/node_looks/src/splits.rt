@@ -117,7 +117,8 @@ fn open_pair(site: &Site, objects: &[u32]) -> Option<(u32, u32)>
     requires site { IsSite site.now }
     requires known { All (λ o. o < 16) objects.now }
     requires cycle { IsCycle (IsOnOrEarnedAt site.now) objects.now }
-    ensures { MatchOption result (IsCycle (OnPath site.now.path.now) objects.now) (λ o. EarnsPairAt site.now o.0 o.1) }
+    ensures { MatchOption result (IsCycle (OnPath site.now.path.now) objects.now)
+        (λ o. EarnsPairAt site.now o.0 o.1) }
 {
     for k in 0..objects.len() {
         let a = objects[k];

@@ -150,7 +150,8 @@ fn pair_look<'a>(site: &Site<'a>, i: u32, j: u32) -> PairLook<'a>
 impl<'a> Survey<'a> {
     // The cheapest one is the best, the first of those that are alike.
     fn keep(&mut self, candidate: Candidate<'a>, price: u64)
-        ensures best { (self.new.best ≡ Some candidate.entry) ⊎ (IsSome self.old.best × (self.new.best ≡ self.old.best)) }
+        ensures best { (self.new.best ≡ Some candidate.entry)
+            ⊎ (IsSome self.old.best × (self.new.best ≡ self.old.best)) }
         ensures forced { self.new.forced.items ≡ self.old.forced.items }
     {
         if self.best.is_none() || price < self.price {
@@ -201,7 +202,8 @@ impl<'a> Survey<'a> {
 /// Looks at all pairs of objects at the point.
 pub(crate) fn look_at_pairs<'a>(alloc: Global, site: &Site<'a>) -> Result<Survey<'a>, AllocError>
     requires { IsSite site.now }
-    ensures { IfOk result (λ s. IsSurveyed site.now (length site.now.job.now.objects) 0 s.best s.forced.items) }
+    ensures { IfOk result (λ s.
+        IsSurveyed site.now (length site.now.job.now.objects) 0 s.best s.forced.items) }
 {
     let mut survey = Survey {
         best: None,

@@ -150,7 +150,8 @@ fn push_side(
     choice: &Choice,
 ) -> Result<(), AllocError>
     requires { IsSideOf job.now choice.now }
-    ensures { (e : ℕ) → OnOk result (rows.new.items ≡ rows.old.items ++ side_rows job.now e (choice.now ∷ [])) }
+    ensures { (e : ℕ) → OnOk result (rows.new.items
+        ≡ rows.old.items ++ side_rows job.now e (choice.now ∷ [])) }
 {
     match choice {
         Choice::Before { i: _, j: _ } => Ok(()),

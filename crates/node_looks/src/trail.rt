@@ -92,7 +92,8 @@ fn warm_bounds(
 
 // Whether so many orders leave room for this one, which is an order of two objects of the job.
 fn may_hold(job: &Job, orders: usize, i: u32, j: u32) -> bool
-    ensures { IsTrue result → IsAmong (length job.now.objects) (i, j) × (orders < 16 * length job.now.objects) }
+    ensures { IsTrue result → IsAmong (length job.now.objects) (i, j)
+        × (orders < 16 * length job.now.objects) }
 {
     let count = job.objects.len();
     (i as usize) < count && (j as usize) < count && i != j && orders < 16 * count
@@ -103,7 +104,8 @@ fn forget(graph: &mut OrderGraph, orders: &mut usize, choice: &Choice)
     requires count { orders.old ≡ length graph.old.held }
     requires some { length (orders_of (choice.now ∷ [])) ≤ length graph.old.held }
     ensures objects { graph.new.objects ≡ graph.old.objects }
-    ensures held { graph.new.held ≡ take (length graph.old.held - length (orders_of (choice.now ∷ []))) graph.old.held }
+    ensures held { graph.new.held
+        ≡ take (length graph.old.held - length (orders_of (choice.now ∷ []))) graph.old.held }
     ensures count { orders.new ≡ length graph.new.held }
 {
     match choice {
@@ -164,7 +166,8 @@ impl Trail {
         requires some { 0 < length self.old.levels.items }
         ensures trail { IsTrail job.now self.new }
         ensures extent { self.new.extent ≡ self.old.extent }
-        ensures levels { self.new.levels.items ≡ take (length self.old.levels.items - 1) self.old.levels.items }
+        ensures levels { self.new.levels.items
+            ≡ take (length self.old.levels.items - 1) self.old.levels.items }
     {
         if let Some(level) = self.levels.pop() {
             self.warm.undo_to(level.before);

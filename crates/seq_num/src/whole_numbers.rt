@@ -61,5 +61,6 @@ pub fn spelling_digits()
 
 /// No bytes spell two numbers.
 pub fn one_spelling()
-    ensures { (a b : ℤ) → unsigned_abs a < 2 ^ 100 → unsigned_abs b < 2 ^ 100 → spelling a ≡ spelling b → a ≡ b }
+    ensures { (a b : ℤ) → unsigned_abs a < 2 ^ 100 → unsigned_abs b < 2 ^ 100 → spelling a ≡ spelling b
+        → a ≡ b }
 {}

@@ -12,7 +12,8 @@ use std::alloc::Global;
 pub fn read(alloc: Global, words: &[String]) -> Result<Command, Words>
     ensures ok { IfOk result (λ command. asked (texts words.now) ≡ Ok command) }
     ensures limits { IfOk result IsWithinLimits }
-    ensures err { IfErr result (λ refusal. (refusal ≡ Words.NoMemory) ⊎ (asked (texts words.now) ≡ Err refusal)) }
+    ensures err { IfErr result (λ refusal. (refusal ≡ Words.NoMemory)
+        ⊎ (asked (texts words.now) ≡ Err refusal)) }
 {
     let Some(name) = words.first() else {
         return Err(Words::Unknown);
