@@ -66,19 +66,6 @@ nothing_number m j z y found e f n h =
             left : (p q g : ℤ) → p *ℤ pos 0 -ℤ q *ℤ pos 0 ≡ g *ℤ pos 0
             left p q g = simp expand (omega (arith, ints))
 
-pub empty_number : (m : Mix) (j : ℕ) (z y : ℤ) → z ≡ pos 0 → y ≡ pos 0 → (j ≡ m.place → ⊥) → 0 < unsigned_abs m.g → int_div (mixed m j z y) m.g ≡ z
-empty_number m j z y e f n g = ap (λ t. int_div t m.g) (by (nat_eq j m.place) refl) ∙ times_quotient m.g z (some m.g g)
-  where
-    plain : (p q g z y : ℤ) → z ≡ pos 0 → y ≡ pos 0 → p *ℤ z -ℤ q *ℤ y ≡ g *ℤ z
-    plain p q g z y e f = rw (e, f) (left p q g)
-      where
-        left : (p q g : ℤ) → p *ℤ pos 0 -ℤ q *ℤ pos 0 ≡ g *ℤ pos 0
-        left p q g = simp expand (omega (arith, ints))
-
-    by : (b : Bool) → nat_eq j m.place ≡ b → (if b then m.d *ℤ m.q else m.p *ℤ z -ℤ m.q *ℤ y) ≡ m.g *ℤ z
-    by true s = absurd (n (is_here j m.place s))
-    by false s = plain m.p m.q m.g z y e f
-
 times : (g x : ℤ) → unsigned_abs g ∣ unsigned_abs (g *ℤ x)
 times g x = subst (λ t. unsigned_abs g ∣ t) (sym (unsigned_abs-mul g x)) (dvd-mul_right (unsigned_abs g) (unsigned_abs x))
 

@@ -45,7 +45,7 @@ number_is m zs ys i d l h = by (nat_eq i m.place) refl
         sym (get_or-combined m.p m.q zs ys i) ∙ any_default (combined m.p m.q zs ys) i (pos 0) d (omega (arith, long, h))
         ∙ sym (get_or-set_other (combined m.p m.q zs ys) m.place i (m.d *ℤ m.q) d (is_elsewhere i m.place e))
 
-at_map : (f : ℤ → ℤ) (xs : List ℤ) (i : ℕ) (d e : ℤ) → i < length xs → get_or (map f xs) i d ≡ f (get_or xs i e)
+pub at_map : (f : ℤ → ℤ) (xs : List ℤ) (i : ℕ) (d e : ℤ) → i < length xs → get_or (map f xs) i d ≡ f (get_or xs i e)
 at_map f [] i d e h = absurd (omega (arith, h))
 at_map f (x ∷ xs) zero d e h = refl
 at_map f (x ∷ xs) (suc i) d e h = at_map f xs i d e (omega (arith, h))

@@ -16,14 +16,14 @@ pub fn short(x: &i128) -> i64
     *x as i64
 }
 
-/// Whether both numbers are below 2^31 in size: the division of 32 bits is several times as quick as that of 64.
-fn are_brief(x: &i64, y: &i64) -> bool
-    ensures { IsTrue result → (unsigned_abs x.now < 2 ^ 31) × (unsigned_abs y.now < 2 ^ 31) }
+/// Whether a number is below 2^31 in size: the division of 32 bits is several times as quick as that of 64.
+pub fn is_brief(x: &i64) -> bool
+    ensures { IsTrue result → unsigned_abs x.now < 2 ^ 31 }
 {
-    x.unsigned_abs() < 1 << 31 && y.unsigned_abs() < 1 << 31
+    x.unsigned_abs() < 1 << 31
 }
 
-fn brief(x: &i64) -> i32
+pub fn brief(x: &i64) -> i32
     requires { unsigned_abs x.now < 2 ^ 31 }
     ensures value { result ≡ x.now }
     ensures size { unsigned_abs result < 2 ^ 31 }
@@ -39,13 +39,16 @@ fn brief_quotient(x: &i32, g: &i32) -> i32
     *x / *g
 }
 
-fn divided_brief(x: &i64, g: &i64) -> i64
-    requires x { unsigned_abs x.now < 2 ^ 31 }
+/// The quotient by a number of 32 bits, towards 0.
+pub fn quotient_by_brief(x: &i64, g: &i32) -> i64
+    requires x { unsigned_abs x.now < 2 ^ 63 }
     requires g { 0 < unsigned_abs g.now }
-    requires brief { unsigned_abs g.now < 2 ^ 31 }
-    ensures value { result ≡ int_div x.now g.now }
+    ensures { result ≡ int_div x.now g.now }
 {
-    i64::from(brief_quotient(&brief(x), &brief(g)))
+    if is_brief(x) {
+        return i64::from(brief_quotient(&brief(x), g));
+    }
+    *x / i64::from(*g)
 }
 
 /// The quotient, towards 0.
@@ -54,8 +57,8 @@ pub fn short_quotient(x: &i64, g: &i64) -> i64
     requires g { 0 < unsigned_abs g.now }
     ensures value { result ≡ int_div x.now g.now }
 {
-    if are_brief(x, g) {
-        return divided_brief(x, g);
+    if is_brief(g) {
+        return quotient_by_brief(x, &brief(g));
     }
     *x / *g
 }
@@ -100,7 +103,7 @@ fn divides_brief(found: &i64, x: &i64) -> bool
 pub fn short_divides(found: &i64, x: &i64) -> bool
     ensures { IsTrue result → (pos 0 <ℤ found.now) × (int_rem x.now found.now ≡ pos 0) }
 {
-    if are_brief(found, x) {
+    if is_brief(found) && is_brief(x) {
         return divides_brief(found, x);
     }
     *found > 0 && (*x == 0 || *x % *found == 0)

@@ -1,9 +1,9 @@
 ghost use Rattle.std.specs.Prelude.{◌≡◌, ◌↔◌, ℕ, suc, ◌+◌, ◌<◌, ◌≤◌, ◌^◌, ◌++◌, List, [], ◌∷◌, ℤ, pos, ◌+ℤ◌, ◌*ℤ◌, unsigned_abs, All, IsTrue, IfOk, length, slice_index_or, nat_eq, if◌then◌else◌, vec_len, vec_capacity};
 ghost use Rattle.row_dictionary.specs.Halving.{whole, IsWithin};
+ghost use Rattle.row_dictionary.specs.Pushing.{variable_line, pushed_line};
 ghost use Rattle.row_dictionary.specs.Scans.{IsSmallRow};
 ghost use Rattle.row_dictionary.specs.Tables.{AreLines};
 ghost use Rattle.row_pivots.specs.Ends.{Small};
-ghost use Rattle.row_pivots.specs.Growing.{line_over, row_line};
 
 use crate::halves::{Halves, and_one, nothing, small_sum};
 use crate::line::Line;
@@ -28,7 +28,7 @@ fn number_over(variables: &Variables, lines: &[Line], den: &i64, z: u32, j: usiz
     requires lines { AreLines (suc (length variables.now.free)) lines.now }
     requires den { Small den.now }
     requires j { j < suc (length variables.now.free) }
-    ensures is { result ≡ slice_index_or (line_over den.now variables.now.basic variables.now.free lines.now z) j (pos 0) }
+    ensures is { result ≡ slice_index_or (variable_line den.now variables.now lines.now z) j (pos 0) }
     ensures size { Small result }
 {
     if variables.is_basic(z) {
@@ -85,7 +85,8 @@ fn and_variable(
     requires k { k < 2 ^ 32 }
     requires within { IsWithin (k + 1) sum.now }
     requires x { Small x.now }
-    ensures value { whole result ≡ whole sum.now +ℤ x.now *ℤ slice_index_or (line_over den.now variables.now.basic variables.now.free lines.now k) j (pos 0) }
+    ensures value { whole result ≡ whole sum.now
+        +ℤ x.now *ℤ slice_index_or (variable_line den.now variables.now lines.now k) j (pos 0) }
     ensures within { IsWithin (k + 1 + 1) result }
 {
     if *x == 0 {
@@ -107,7 +108,8 @@ fn row_sum(variables: &Variables, lines: &[Line], den: &i64, row: &Row, j: usize
     requires j { j < suc (length variables.now.free) }
     requires small { IsSmallRow row.now }
     requires count { length row.now.a < 2 ^ 32 }
-    ensures value { whole result ≡ slice_index_or (row_line (length row.now.a) den.now variables.now.basic variables.now.free lines.now row.now) j (pos 0) }
+    ensures value { whole result
+        ≡ slice_index_or (pushed_line den.now variables.now lines.now row.now) j (pos 0) }
     ensures within { IsWithin (length row.now.a + 1) result }
 {
     let a = row.a.as_slice();
@@ -132,9 +134,12 @@ pub fn push_numbers(
     requires small { IsSmallRow row.now }
     requires count { length row.now.a < 2 ^ 32 }
     requires empty { numbers.old.items ≡ [] }
-    ensures held { IfOk result (λ held. IsTrue held → numbers.new.items ≡ row_line (length row.now.a) den.now variables.now.basic variables.now.free lines.now row.now) }
-    ensures small { IfOk result (λ held. IsTrue held → All Small (row_line (length row.now.a) den.now variables.now.basic variables.now.free lines.now row.now)) }
-    ensures wide { IfOk result (λ held. (IsTrue held → ⊥) → All Small (row_line (length row.now.a) den.now variables.now.basic variables.now.free lines.now row.now) → ⊥) }
+    ensures held { IfOk result (λ held. IsTrue held
+        → numbers.new.items ≡ pushed_line den.now variables.now lines.now row.now) }
+    ensures small { IfOk result (λ held. IsTrue held
+        → All Small (pushed_line den.now variables.now lines.now row.now)) }
+    ensures wide { IfOk result (λ held. (IsTrue held → ⊥)
+        → All Small (pushed_line den.now variables.now lines.now row.now) → ⊥) }
 {
     let count = row.a.len() + 1;
     for j in 0..variables.free().len() + 1 {

@@ -2,9 +2,9 @@ ghost use Rattle.std.specs.Prelude.{◌≡◌, ◌≢◌, ℕ, ◌<◌, ◌*◌,
 ghost use Rattle.std.specs.Int.{◌∣◌};
 ghost use Rattle.integer_laws.specs.Divisors.{IsGcdOf};
 ghost use Rattle.row_pivots.specs.Ends.{Small};
-ghost use Rattle.row_dictionary.specs.Mixing.{mixed, mixed_numbers, mixed_line, IsCommon, Narrow, IsNarrowMix, IsWhole, IsLowered};
+ghost use Rattle.row_dictionary.specs.Mixing.{mixed, mixed_numbers, crossed_line, mixed_line, IsCommon, Narrow, IsNarrowMix, IsWhole, IsLowered};
 
-use crate::division::{divided, is_factor, short, short_divides, short_quotient};
+use crate::division::{brief, divided, is_factor, quotient_by_brief, short, short_divides};
 use crate::number::Mix;
 use seq_num::gcd;
 
@@ -21,11 +21,11 @@ pub fn are_narrow(numbers: &[i64]) -> bool
     numbers.iter().all(|x| is_narrow(x))
 }
 
-/// Whether 64 bits hold the divisor.
-pub fn has_short_divisor(mix: &Mix) -> bool
-    ensures { IsTrue result → unsigned_abs mix.now.g < 2 ^ 63 }
+/// Whether the divisor is below 2^31 in size, so that the quickest division serves.
+pub fn has_brief_divisor(mix: &Mix) -> bool
+    ensures { IsTrue result → unsigned_abs mix.now.g < 2 ^ 31 }
 {
-    mix.g.unsigned_abs() < 1 << 63
+    mix.g.unsigned_abs() < 1 << 31
 }
 
 /// Whether what lines are multiplied by is below 2^30 in size.
@@ -157,42 +157,38 @@ fn narrow_number(mix: &Mix, j: usize, z: &i64, y: &i64) -> i64
     }
 }
 
-/// The quotient by the divisor.
-fn narrow_quotient(x: &i64, g: &i64) -> i64
-    requires x { Small x.now }
-    requires g { 0 < unsigned_abs g.now }
-    ensures { result ≡ int_div x.now g.now }
-{
-    if *g == 1 {
-        return *x;
-    }
-    short_quotient(x, g)
-}
-
-/// The new number at a place.
-fn new_narrow(mix: &Mix, g: &i64, i: usize, z: &i64, y: &i64) -> i64
+/// The new number at a place other than that of what enters.
+fn new_crossed(mix: &Mix, g: &i32, z: &i64, y: &i64) -> i64
     requires mix { IsNarrowMix mix.now }
     requires some { 0 < unsigned_abs mix.now.g }
     requires g { g.now ≡ mix.now.g }
     requires z { Narrow z.now }
     requires y { Narrow y.now }
-    ensures { result ≡ int_div (mixed mix.now i z.now y.now) mix.now.g }
+    ensures { result ≡ int_div (mix.now.p *ℤ z.now -ℤ mix.now.q *ℤ y.now) mix.now.g }
 {
-    narrow_quotient(&narrow_number(mix, i, z, y), g)
+    quotient_by_brief(&narrow_crossed(mix, z, y), g)
 }
 
-/// Whether the number at a place stays as it is, where the divisor is the factor: what leaves has none there.
-fn stays(mix: &Mix, i: usize, y: &i64) -> bool
-    ensures { IsTrue result → (y.now ≡ pos 0) × (i ≢ mix.now.place) }
+/// The new number at the place of what enters.
+fn new_turned(mix: &Mix, g: &i32) -> i64
+    requires mix { IsNarrowMix mix.now }
+    requires some { 0 < unsigned_abs mix.now.g }
+    requires g { g.now ≡ mix.now.g }
+    ensures { result ≡ int_div (mix.now.d *ℤ mix.now.q) mix.now.g }
 {
-    *y == 0 && i != mix.place
+    quotient_by_brief(&narrow_turned(mix), g)
 }
 
-/// Whether the new number at a place is 0 as the old one: neither line has one there.
-fn is_empty(mix: &Mix, i: usize, z: &i64, y: &i64) -> bool
-    ensures { IsTrue result → (z.now ≡ pos 0) × (y.now ≡ pos 0) × (i ≢ mix.now.place) }
+fn is_zero(y: &i64) -> bool
+    ensures { IsTrue result → y.now ≡ pos 0 }
 {
-    *z == 0 && *y == 0 && i != mix.place
+    *y == 0
+}
+
+fn are_zero(z: &i64, y: &i64) -> bool
+    ensures { IsTrue result → (z.now ≡ pos 0) × (y.now ≡ pos 0) }
+{
+    *z == 0 && *y == 0
 }
 
 /// Whether all numbers are narrow, and one more.
@@ -203,8 +199,8 @@ fn and_narrow(narrow: bool, x: &i64) -> bool
     narrow && is_narrow(x)
 }
 
-/// The line, pivoted, where the divisor is the factor: what leaves has a number at few places.
-fn pivot_kept(line: &mut [i64], by: &[i64], mix: &Mix, g: &i64) -> bool
+/// The line, crossed, where the divisor is the factor: it stays as it is where what leaves has no number, and that has few.
+fn cross_kept(line: &mut [i64], by: &[i64], mix: &Mix, g: &i32) -> bool
     requires mix { IsNarrowMix mix.now }
     requires some { 0 < unsigned_abs mix.now.g }
     requires g { g.now ≡ mix.now.g }
@@ -212,14 +208,13 @@ fn pivot_kept(line: &mut [i64], by: &[i64], mix: &Mix, g: &i64) -> bool
     requires line { All Narrow line.old }
     requires by { All Narrow by.now }
     requires len { length line.old ≡ length by.now }
-    requires place { mix.now.place < length line.old }
-    ensures is { line.new ≡ mixed_line mix.now line.old by.now }
+    ensures is { line.new ≡ crossed_line mix.now line.old by.now }
     ensures narrow { IsTrue result → All Narrow line.new }
 {
     let mut narrow = true;
     for i in 0..line.len() {
-        if !stays(mix, i, &by[i]) {
-            let x = new_narrow(mix, g, i, &line[i], &by[i]);
+        if !is_zero(&by[i]) {
+            let x = new_crossed(mix, g, &line[i], &by[i]);
             line[i] = x;
             narrow = and_narrow(narrow, &x);
         }
@@ -227,22 +222,21 @@ fn pivot_kept(line: &mut [i64], by: &[i64], mix: &Mix, g: &i64) -> bool
     narrow
 }
 
-/// The line, pivoted.
-fn pivot_each(line: &mut [i64], by: &[i64], mix: &Mix, g: &i64) -> bool
+/// The line, crossed.
+fn cross_each(line: &mut [i64], by: &[i64], mix: &Mix, g: &i32) -> bool
     requires mix { IsNarrowMix mix.now }
     requires some { 0 < unsigned_abs mix.now.g }
     requires g { g.now ≡ mix.now.g }
     requires line { All Narrow line.old }
     requires by { All Narrow by.now }
     requires len { length line.old ≡ length by.now }
-    requires place { mix.now.place < length line.old }
-    ensures is { line.new ≡ mixed_line mix.now line.old by.now }
+    ensures is { line.new ≡ crossed_line mix.now line.old by.now }
     ensures narrow { IsTrue result → All Narrow line.new }
 {
     let mut narrow = true;
     for i in 0..line.len() {
-        if !is_empty(mix, i, &line[i], &by[i]) {
-            let x = new_narrow(mix, g, i, &line[i], &by[i]);
+        if !are_zero(&line[i], &by[i]) {
+            let x = new_crossed(mix, g, &line[i], &by[i]);
             line[i] = x;
             narrow = and_narrow(narrow, &x);
         }
@@ -250,24 +244,43 @@ fn pivot_each(line: &mut [i64], by: &[i64], mix: &Mix, g: &i64) -> bool
     narrow
 }
 
-/// The line, pivoted, where nothing is divided.
-fn pivot_whole(line: &mut [i64], by: &[i64], mix: &Mix) -> bool
+/// The line, crossed, where nothing is divided.
+fn cross_whole(line: &mut [i64], by: &[i64], mix: &Mix) -> bool
     requires mix { IsNarrowMix mix.now }
     requires g { mix.now.g ≡ pos 1 }
     requires line { All Narrow line.old }
     requires by { All Narrow by.now }
     requires len { length line.old ≡ length by.now }
-    requires place { mix.now.place < length line.old }
-    ensures is { line.new ≡ mixed_line mix.now line.old by.now }
+    ensures is { line.new ≡ crossed_line mix.now line.old by.now }
     ensures narrow { IsTrue result → All Narrow line.new }
 {
     let mut narrow = true;
     for i in 0..line.len() {
-        let x = narrow_number(mix, i, &line[i], &by[i]);
+        let x = narrow_crossed(mix, &line[i], &by[i]);
         line[i] = x;
         narrow = and_narrow(narrow, &x);
     }
     narrow
+}
+
+/// The line, crossed with that of what leaves: pivoted at all places but that of what enters.
+fn cross(line: &mut [i64], by: &[i64], mix: &Mix, g: &i32) -> bool
+    requires mix { IsNarrowMix mix.now }
+    requires some { 0 < unsigned_abs mix.now.g }
+    requires g { g.now ≡ mix.now.g }
+    requires line { All Narrow line.old }
+    requires by { All Narrow by.now }
+    requires len { length line.old ≡ length by.now }
+    ensures is { line.new ≡ crossed_line mix.now line.old by.now }
+    ensures narrow { IsTrue result → All Narrow line.new }
+{
+    if *g == 1 {
+        return cross_whole(line, by, mix);
+    }
+    if mix.p == i64::from(*g) {
+        return cross_kept(line, by, mix, g);
+    }
+    cross_each(line, by, mix, g)
 }
 
 /// The line, pivoted, where all its numbers and all that it is multiplied by are below 2^30 in size; and whether its new
@@ -275,7 +288,7 @@ fn pivot_whole(line: &mut [i64], by: &[i64], mix: &Mix) -> bool
 pub fn pivot_narrow(line: &mut [i64], by: &[i64], mix: &Mix) -> bool
     requires mix { IsNarrowMix mix.now }
     requires g { 0 < unsigned_abs mix.now.g }
-    requires short { unsigned_abs mix.now.g < 2 ^ 63 }
+    requires brief { unsigned_abs mix.now.g < 2 ^ 31 }
     requires line { All Narrow line.old }
     requires by { All Narrow by.now }
     requires len { length line.old ≡ length by.now }
@@ -283,19 +296,17 @@ pub fn pivot_narrow(line: &mut [i64], by: &[i64], mix: &Mix) -> bool
     ensures is { line.new ≡ mixed_line mix.now line.old by.now }
     ensures narrow { IsTrue result → All Narrow line.new }
 {
-    let g = short(&mix.g);
-    if mix.p == g {
-        return pivot_kept(line, by, mix, &g);
-    }
-    if g == 1 {
-        return pivot_whole(line, by, mix);
-    }
-    pivot_each(line, by, mix, &g)
+    let g = brief(&short(&mix.g));
+    let narrow = cross(line, by, mix, &g);
+    let x = new_turned(mix, &g);
+    line[mix.place] = x;
+    and_narrow(narrow, &x)
 }
 
 /// Whether the number at a place is a multiple of what was found, since what leaves has none there.
 fn is_multiple(found: &i64, mix: &Mix, i: usize, y: &i64) -> bool
-    ensures { IsTrue result → (y.now ≡ pos 0) × (mix.now.p ≡ found.now) × (i ≢ mix.now.place) × (pos 0 <ℤ found.now) }
+    ensures { IsTrue result → (y.now ≡ pos 0) × (mix.now.p ≡ found.now)
+        × (i ≢ mix.now.place) × (pos 0 <ℤ found.now) }
 {
     *y == 0 && mix.p == *found && i != mix.place && *found > 0
 }

@@ -114,7 +114,8 @@ fn is_wide_number(mix: &Mix, i: usize, z: &i64, y: &i64) -> bool
 
 /// Whether the number at a place is a multiple of what was found, since what leaves has none there.
 fn is_multiple(found: &i128, mix: &Mix, i: usize, y: &i64) -> bool
-    ensures { IsTrue result → (y.now ≡ pos 0) × (mix.now.p ≡ found.now) × (i ≢ mix.now.place) × (pos 0 <ℤ found.now) }
+    ensures { IsTrue result → (y.now ≡ pos 0) × (mix.now.p ≡ found.now)
+        × (i ≢ mix.now.place) × (pos 0 <ℤ found.now) }
 {
     *y == 0 && i128::from(mix.p) == *found && i != mix.place && *found > 0
 }
@@ -128,7 +129,8 @@ fn is_nothing(found: &i128, mix: &Mix, i: usize, z: &i64, y: &i64) -> bool
 
 /// Whether all numbers are multiples of what was found, since it divides what both lines are multiplied by.
 pub fn are_multiples(found: &i128, mix: &Mix) -> bool
-    ensures { IsTrue result → (unsigned_abs found.now ∣ unsigned_abs mix.now.q) × (unsigned_abs found.now ∣ unsigned_abs mix.now.p) }
+    ensures { IsTrue result → (unsigned_abs found.now ∣ unsigned_abs mix.now.q)
+        × (unsigned_abs found.now ∣ unsigned_abs mix.now.p) }
 {
     is_factor(found, &mix.q) && is_factor(found, &mix.p)
 }

@@ -98,7 +98,8 @@ impl Variables {
     /// The variable of the next number is basic, at the last place.
     pub fn grow(&mut self) -> Result<(), AllocError>
         requires { length self.old.basic + length self.old.free + 1 < 2 ^ 32 }
-        ensures basic { OnOk result (self.new.basic ≡ self.old.basic ++ (length self.old.basic + length self.old.free) ∷ []) }
+        ensures basic { OnOk result (self.new.basic
+            ≡ self.old.basic ++ (length self.old.basic + length self.old.free) ∷ []) }
         ensures free { self.new.free ≡ self.old.free }
         ensures unchanged { OnErr result (self.new.basic ≡ self.old.basic) }
     {
