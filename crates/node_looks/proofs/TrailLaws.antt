@@ -11,7 +11,7 @@ use Rattle.node_looks.proofs.OrderLaws.{closes_on_path}
 use Rattle.node_looks.proofs.RowLaws.{side_at, rows_small, rows_few}
 use Rattle.node_looks.proofs.RowLaws as R
 use Rattle.node_looks.specs.Held.{HoldsOrders, IsOrderOf}
-use Rattle.node_looks.specs.Trails.{Follows, HasRows, IsTrail, IsWarmed, StandsAt, orders_of, path_of}
+use Rattle.node_looks.specs.Trails.{FollowsPath, HasOnlyRows, IsTrail, IsWarmed, StandsAt, orders_of, path_of}
 use Rattle.node_looks.specs.declared.trail.Level.{Level}
 use Rattle.node_looks.specs.declared.trail.Trail.{Trail}
 use Rattle.object_orders.specs.Orders.{AreAmong, ClosesCycle, Graph, IsAmong}
@@ -55,17 +55,17 @@ rows_of_pivots (Steps.Row r ∷ steps) all = absurd (all 0 (Steps.Row r) (omega 
 rows_of_pivots (Steps.Pivot l e ∷ steps) all = rows_of_pivots steps (λ k d l. all (suc k) d (omega arith))
 
 -- ---- rows of the choices
-pub follows_within : (job : Job) (e : ℕ) (steps : List Step) (low : ℕ) (path : List Choice) (levels : List Level) → Follows job e steps low path levels → low ≤ length steps
+pub follows_within : (job : Job) (e : ℕ) (steps : List Step) (low : ℕ) (path : List Choice) (levels : List Level) → FollowsPath job e steps low path levels → low ≤ length steps
 follows_within job e steps low path [] f = f.0
 follows_within job e steps low path (l ∷ levels) f = let a = f.0 in let b = f.1 in omega (arith, a, b)
 
-pub follows_rows : (job : Job) (e : ℕ) (steps : List Step) (low : ℕ) (path : List Choice) (levels : List Level) → Follows job e steps low path levels → rows_of steps ≡ system job e (path ++ path_of levels)
+pub follows_rows : (job : Job) (e : ℕ) (steps : List Step) (low : ℕ) (path : List Choice) (levels : List Level) → FollowsPath job e steps low path levels → rows_of steps ≡ system job e (path ++ path_of levels)
 follows_rows job e steps low path [] f = f.1 ∙ ap (system job e) (sym (append-nil path))
 follows_rows job e steps low path (l ∷ levels) f = follows_rows job e steps l.before.steps (also path l.choice) levels f.3 ∙ ap (system job e) (append_assoc path (l.choice ∷ []) (path_of levels))
 
 -- taken back
-pub follows_left : (job : Job) (e : ℕ) (steps : List Step) (low : ℕ) (path : List Choice) (levels : List Level) (l : Level) → Follows job e steps low path (levels ++ l ∷ [])
-    → Follows job e (take l.before.steps steps) low path levels
+pub follows_left : (job : Job) (e : ℕ) (steps : List Step) (low : ℕ) (path : List Choice) (levels : List Level) (l : Level) → FollowsPath job e steps low path (levels ++ l ∷ [])
+    → FollowsPath job e (take l.before.steps steps) low path levels
 follows_left job e steps low path [] l f = (omega (arith, f.0, length-take-le l.before.steps steps f.1), f.2)
 follows_left job e steps low path (m ∷ levels) l f =
     let more = follows_left job e steps m.before.steps (also path m.choice) levels l f.3 in
@@ -76,14 +76,14 @@ follows_left job e steps low path (m ∷ levels) l f =
     shorter : (m n : ℕ) (steps : List Step) → m ≤ length (take n steps) → m ≤ n
     shorter m n steps h = omega (arith, h, length-take n steps)
 
-pub follows_last : (job : Job) (e : ℕ) (steps : List Step) (low : ℕ) (path : List Choice) (levels : List Level) (l : Level) → Follows job e steps low path (levels ++ l ∷ [])
+pub follows_last : (job : Job) (e : ℕ) (steps : List Step) (low : ℕ) (path : List Choice) (levels : List Level) (l : Level) → FollowsPath job e steps low path (levels ++ l ∷ [])
     → l.before.steps ≤ length steps
 follows_last job e steps low path [] l f = f.1
 follows_last job e steps low path (m ∷ levels) l f = follows_last job e steps m.before.steps (also path m.choice) levels l f.3
 
 -- more steps
-pub follows_on : (job : Job) (e : ℕ) (steps more : List Step) (low : ℕ) (path : List Choice) (levels : List Level) → Follows job e steps low path levels → rows_of more ≡ []
-    → Follows job e (steps ++ more) low path levels
+pub follows_on : (job : Job) (e : ℕ) (steps more : List Step) (low : ℕ) (path : List Choice) (levels : List Level) → FollowsPath job e steps low path levels → rows_of more ≡ []
+    → FollowsPath job e (steps ++ more) low path levels
 follows_on job e steps more low path [] f none =
     (omega (arith, f.0, length-append steps more), rows_of-append steps more ∙ ap (λ t. rows_of steps ++ t) none ∙ append-nil (rows_of steps) ∙ f.1)
 follows_on job e steps more low path (l ∷ levels) f none =
@@ -94,8 +94,8 @@ pub system-also : (job : Job) (e : ℕ) (path : List Choice) (c : Choice) → sy
 system-also job e path c = ap (λ t. bounds_of job e 0 job.objects ++ t) (side_rows-append job e path (c ∷ []))
     ∙ sym (append_assoc (bounds_of job e 0 job.objects) (side_rows job e path) (side_rows job e (c ∷ [])))
 
-pub follows_more : (job : Job) (e : ℕ) (steps more : List Step) (low : ℕ) (path : List Choice) (levels : List Level) (l : Level) → Follows job e steps low path levels
-    → l.before.steps ≡ length steps → rows_of more ≡ side_rows job e (l.choice ∷ []) → Follows job e (steps ++ more) low path (levels ++ l ∷ [])
+pub follows_more : (job : Job) (e : ℕ) (steps more : List Step) (low : ℕ) (path : List Choice) (levels : List Level) (l : Level) → FollowsPath job e steps low path levels
+    → l.before.steps ≡ length steps → rows_of more ≡ side_rows job e (l.choice ∷ []) → FollowsPath job e (steps ++ more) low path (levels ++ l ∷ [])
 follows_more job e steps more low path [] l f here new = (
   omega (arith, f.0, here),
   omega (arith, here, length-append steps more),
@@ -156,14 +156,14 @@ pub held_some : (job : Job) (t : Trail) (levels : List Level) (l : Level) → Is
 held_some job t levels l is e = omega (arith, ap length (held_parts job t levels l is e), length-append (orders_of (path_of levels)) (orders_of (l.choice ∷ [])))
 
 pub last_within : (job : Job) (t : Trail) (levels : List Level) (l : Level) → IsTrail job t → t.levels.items ≡ levels ++ l ∷ [] → l.before.steps ≤ length t.warm.steps
-last_within job t levels l is e = follows_last job t.extent t.warm.steps 0 [] levels l (subst (Follows job t.extent t.warm.steps 0 []) e is.rows)
+last_within job t levels l is e = follows_last job t.extent t.warm.steps 0 [] levels l (subst (FollowsPath job t.extent t.warm.steps 0 []) e is.rows)
 
 pub trail_left : (job : Job) (t u : Trail) (l : Level) → IsTrail job t → t.levels.items ≡ u.levels.items ++ l ∷ [] → u.extent ≡ t.extent → u.warm.vars ≡ t.warm.vars → u.warm.steps ≡ take l.before.steps t.warm.steps
     → u.graph.objects ≡ t.graph.objects → u.graph.held ≡ take (length t.graph.held - length (orders_of (l.choice ∷ []))) t.graph.held → u.orders ≡ length u.graph.held → IsTrail job u
 trail_left job t u l is e extent vars steps objects held count = record {
   vars = vars ∙ is.vars;
-  rows = subst (λ k. Follows job k u.warm.steps 0 [] u.levels.items) (sym extent) (subst (λ s. Follows job t.extent s 0 [] u.levels.items) (sym steps)
-      (follows_left job t.extent t.warm.steps 0 [] u.levels.items l (subst (Follows job t.extent t.warm.steps 0 []) e is.rows)));
+  rows = subst (λ k. FollowsPath job k u.warm.steps 0 [] u.levels.items) (sym extent) (subst (λ s. FollowsPath job t.extent s 0 [] u.levels.items) (sym steps)
+      (follows_left job t.extent t.warm.steps 0 [] u.levels.items l (subst (FollowsPath job t.extent t.warm.steps 0 []) e is.rows)));
   objects = objects ∙ is.objects;
   held = held ∙ front;
   among = subst (AreAmong (length job.objects)) (sym held) (All-take (IsAmong (length job.objects)) (length t.graph.held - length (orders_of (l.choice ∷ []))) t.graph.held is.among);
@@ -187,7 +187,7 @@ pub trail_more : (job : Job) (t u : Trail) (l : Level) (more : List Step) → Is
 unfolding one
 trail_more job t u l more is e extent vars steps rows before objects held among count few = record {
   vars = vars ∙ is.vars;
-  rows = subst (λ k. Follows job k u.warm.steps 0 [] u.levels.items) (sym extent) (subst (λ s. Follows job t.extent s 0 [] u.levels.items) (sym steps) (subst (Follows job t.extent (t.warm.steps ++ more) 0 []) (sym e)
+  rows = subst (λ k. FollowsPath job k u.warm.steps 0 [] u.levels.items) (sym extent) (subst (λ s. FollowsPath job t.extent s 0 [] u.levels.items) (sym steps) (subst (FollowsPath job t.extent (t.warm.steps ++ more) 0 []) (sym e)
       (follows_more job t.extent t.warm.steps more 0 [] t.levels.items l is.rows before rows)));
   objects = objects ∙ is.objects;
   held = held ∙ ap (λ h. h ++ orders_of (l.choice ∷ [])) is.held ∙ sym (orders_of-append (path_of t.levels.items) (l.choice ∷ [])) ∙ ap orders_of (sym (parts t.levels.items l)) ∙ ap (λ ls. orders_of (path_of ls)) (sym e);
@@ -212,7 +212,7 @@ stands_more job e k path t u l at is extent levels there = record {
 pub trail_repaired : (job : Job) (t u : Trail) → IsTrail job t → AddsPivots t.warm u.warm → u.levels.items ≡ t.levels.items → u.extent ≡ t.extent → u.graph ≡ t.graph → u.orders ≡ t.orders → IsTrail job u
 trail_repaired job t u is on levels extent graph orders = record {
   vars = on.vars ∙ is.vars;
-  rows = subst (λ k. Follows job k u.warm.steps 0 [] u.levels.items) (sym extent) (subst (λ s. Follows job t.extent s 0 [] u.levels.items) (sym on.steps) (subst (Follows job t.extent (t.warm.steps ++ on.pivots) 0 []) (sym levels)
+  rows = subst (λ k. FollowsPath job k u.warm.steps 0 [] u.levels.items) (sym extent) (subst (λ s. FollowsPath job t.extent s 0 [] u.levels.items) (sym on.steps) (subst (FollowsPath job t.extent (t.warm.steps ++ on.pivots) 0 []) (sym levels)
       (follows_on job t.extent t.warm.steps on.pivots 0 [] t.levels.items is.rows (rows_of_pivots on.pivots on.are))));
   objects = ap (λ (g : Graph). g.objects) graph ∙ is.objects;
   held = ap (λ (g : Graph). g.held) graph ∙ is.held ∙ ap (λ ls. orders_of (path_of ls)) (sym levels);
@@ -303,12 +303,12 @@ path_none job = λ earlier later c d e. absurd (omega (arith, ap length e, lengt
 pub rows_count : (steps : List Step) (rows : List Row) (k : ℕ) → steps ≡ map Steps.Row (take k rows) → length (rows_of steps) ≤ k
 rows_count steps rows k e = omega (arith, ap length (ap rows_of e ∙ rows_of_rows (take k rows)), length-take k rows)
 
-pub trail_new : (job : Job) (e : ℕ) (rows : List Row) (t : Trail) → HasRows t.warm (2 * length job.objects) rows → rows ≡ system job e [] → t.levels.items ≡ [] → t.extent ≡ e
+pub trail_new : (job : Job) (e : ℕ) (rows : List Row) (t : Trail) → HasOnlyRows t.warm (2 * length job.objects) rows → rows ≡ system job e [] → t.levels.items ≡ [] → t.extent ≡ e
     → t.graph ≡ record { objects = length job.objects; held = [] } → t.orders ≡ 0 → StandsAt job e [] t
 trail_new job e rows t has same none extent graph orders = record {
   trail = record {
     vars = has.vars;
-    rows = subst (Follows job t.extent t.warm.steps 0 []) (sym none) (omega arith, ap rows_of has.steps ∙ rows_of_rows rows ∙ same ∙ ap (λ k. system job k []) (sym extent));
+    rows = subst (FollowsPath job t.extent t.warm.steps 0 []) (sym none) (omega arith, ap rows_of has.steps ∙ rows_of_rows rows ∙ same ∙ ap (λ k. system job k []) (sym extent));
     objects = ap (λ (g : Graph). g.objects) graph;
     held = held ∙ ap (λ ls. orders_of (path_of ls)) (sym none);
     among = subst (AreAmong (length job.objects)) (sym held) (All-nil (IsAmong (length job.objects)));

@@ -3,9 +3,9 @@
 --   path_of levels                  the choices that were entered, oldest first
 --   orders_of path                  the orders on a path, in its order
 --   HoldsRows job e path steps      the steps hold the rows of the path's system
---   Follows job e steps low path levels   from the path on: at least `low` steps were there when the first of these choices was entered, no
+--   FollowsPath job e steps low path levels     from the path on: at least `low` steps were there when the first of these choices was entered, no
 --                                   fewer at each later one, and they held the system of the choices before it; all steps hold that of all
---   HasRows warm n rows             these rows were added to a system of none, and nothing else was done
+--   HasOnlyRows warm n rows         these rows were added to a system of none, and nothing else was done
 --   IsTrail job t                   the rows and the orders of the choices that were entered, and no others
 --   StandsAt job e path t           these choices are those of the path
 --   IsEntered job e path k t how    what has become of choice k of the path: it is held, or closes a cycle of orders, or isn't held
@@ -44,19 +44,19 @@ orders_of (Choices.Side contact dir ∷ path) = orders_of path
 abbrev pub HoldsRows : Job → ℕ → List Choice → List Step → Type 0
 HoldsRows job e path steps = rows_of steps ≡ system job e path
 
-abbrev pub Follows : Job → ℕ → List Step → ℕ → List Choice → List Level → Type 0
-Follows job e steps low path [] = (low ≤ length steps) × HoldsRows job e path steps
-Follows job e steps low path (l ∷ levels) =
+abbrev pub FollowsPath : Job → ℕ → List Step → ℕ → List Choice → List Level → Type 0
+FollowsPath job e steps low path [] = (low ≤ length steps) × HoldsRows job e path steps
+FollowsPath job e steps low path (l ∷ levels) =
     (low ≤ l.before.steps) × (l.before.steps ≤ length steps) × HoldsRows job e path (take l.before.steps steps)
-    × Follows job e steps l.before.steps (also path l.choice) levels
+    × FollowsPath job e steps l.before.steps (also path l.choice) levels
 
-pub record HasRows (warm : Warmth) (n : ℕ) (rows : List Row) : Type 0 where
+pub record HasOnlyRows (warm : Warmth) (n : ℕ) (rows : List Row) : Type 0 where
   pub vars : warm.vars ≡ n
   pub steps : warm.steps ≡ map Steps.Row rows
 
 pub record IsTrail (job : Job) (t : Trail) : Type 0 where
   pub vars : t.warm.vars ≡ 2 * length job.objects
-  pub rows : Follows job t.extent t.warm.steps 0 [] t.levels.items
+  pub rows : FollowsPath job t.extent t.warm.steps 0 [] t.levels.items
   pub objects : t.graph.objects ≡ length job.objects
   pub held : t.graph.held ≡ orders_of (path_of t.levels.items)
   pub among : AreAmong (length job.objects) t.graph.held

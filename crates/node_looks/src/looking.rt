@@ -7,7 +7,7 @@ ghost use Rattle.integer_laws.specs.Vectors.{zeros};
 ghost use Rattle.node_looks.specs.Candidates.{IsCandidate};
 ghost use Rattle.node_looks.specs.Questions.{IsAnswer, IsQuestion, IsZeroAnswer, IsZeroQuestion, system_of};
 ghost use Rattle.node_looks.specs.Sites.{HoldsAll, IsLookAt, IsSite, IsZeroLookAt, IsZeroSite};
-ghost use Rattle.node_looks.specs.Kept.{IsKept};
+ghost use Rattle.node_looks.specs.Kept.{KeepsTrail};
 ghost use Rattle.node_looks.specs.Trails.{IsTrail, StandsAt};
 ghost use Rattle.seq_model.specs.Systems.{MeetsRows};
 ghost use Rattle.warm_rows.specs.Warming.{IsRowStep};
@@ -249,7 +249,7 @@ fn trail_for(
 ) -> Result<Option<Box<Trail>>, NoMemory>
     requires low { 1 ≤ extent }
     requires high { extent ≤ job.now.printer.grid }
-    requires kept { IsKept job.now kept }
+    requires kept { KeepsTrail job.now kept }
     ensures { IfOk result (λ made. IfSome made (λ kept.
         IsTrail job.now kept.value × (kept.value.extent ≡ extent))) }
 {
@@ -270,7 +270,7 @@ fn look_at_root(
 ) -> Result<Look, NoMemory>
     requires asked { IsQuestion asked.now }
     requires root { asked.now.path.now ≡ [] }
-    ensures stays { IsKept asked.now.job.now kept.new }
+    ensures stays { KeepsTrail asked.now.job.now kept.new }
     ensures look { IfOk result (IsAnswer asked.now) }
     ensures zero { IsZeroQuestion asked.now → IfOk result (IsZeroAnswer asked.now) }
 {
@@ -291,8 +291,8 @@ fn look_below(
     counts: &mut Counts,
 ) -> Result<Look, NoMemory>
     requires asked { IsQuestion asked.now }
-    requires kept { IsKept asked.now.job.now kept.old }
-    ensures stays { IsKept asked.now.job.now kept.new }
+    requires kept { KeepsTrail asked.now.job.now kept.old }
+    ensures stays { KeepsTrail asked.now.job.now kept.new }
     ensures look { IfOk result (IsAnswer asked.now) }
 {
     let Some(mut trail) = trail_for(alloc, kept.take(), asked.job, asked.extent)? else {
@@ -310,8 +310,8 @@ fn look_by(
     counts: &mut Counts,
 ) -> Result<Look, NoMemory>
     requires asked { IsQuestion asked.now }
-    requires kept { IsKept asked.now.job.now kept.old }
-    ensures stays { IsKept asked.now.job.now kept.new }
+    requires kept { KeepsTrail asked.now.job.now kept.old }
+    ensures stays { KeepsTrail asked.now.job.now kept.new }
     ensures look { IfOk result (IsAnswer asked.now) }
     ensures zero { IsZeroQuestion asked.now → IfOk result (IsZeroAnswer asked.now) }
 {
@@ -348,10 +348,10 @@ pub struct Looker {
 }
 
 impl Looks for Looker {
-    ghost use Rattle.node_looks.specs.Kept.{IsKept};
+    ghost use Rattle.node_looks.specs.Kept.{KeepsTrail};
     ghost use Rattle.pair_constraints.specs.Maximal.{AreContacts};
 
-    ghost IsFor = { λ looker job. AreContacts job looker.contacts × IsKept job looker.kept };
+    ghost IsFor = { λ looker job. AreContacts job looker.contacts × KeepsTrail job looker.kept };
 
     fn look(&mut self, job: &Job, extent: u32, path: &[Choice]) -> Result<Look, NoMemory> {
         look_by(

@@ -5,7 +5,7 @@
 
 ghost use Rattle.std.specs.Prelude.{◌≡◌, ◌+◌, ◌-◌, ◌*◌, ◌<◌, ◌≤◌, ◌≢◌, ◌^◌, [], ◌∷◌, ◌++◌, All, length, pos, slice_get, take, Some, IfOk, IfSome, OnOk, IsTrue};
 ghost use Rattle.integer_laws.specs.Vectors.{zeros};
-ghost use Rattle.node_looks.specs.Trails.{HasRows, IsEntered, IsFollowed, IsTrail, IsWarmed, StandsAt, orders_of, path_of};
+ghost use Rattle.node_looks.specs.Trails.{HasOnlyRows, IsEntered, IsFollowed, IsTrail, IsWarmed, StandsAt, orders_of, path_of};
 ghost use Rattle.object_orders.specs.Orders.{IsAmong};
 ghost use Rattle.row_dictionary.specs.Scans.{IsSmallRow};
 ghost use Rattle.row_pivots.specs.Tables.{AreRowsOf};
@@ -61,7 +61,7 @@ fn add_all(warm: &mut Warm, alloc: Global, rows: &[Row]) -> Result<bool, NoMemor
     requires small { All IsSmallRow rows.now }
     requires count { warm.old.vars + length rows.now < 2 ^ 32 }
     requires none { warm.old.steps ≡ [] }
-    ensures { IfOk result (λ held. IsTrue held → HasRows warm.new warm.old.vars rows.now) }
+    ensures { IfOk result (λ held. IsTrue held → HasOnlyRows warm.new warm.old.vars rows.now) }
 {
     for row in rows {
         match warm.add(alloc, row)? {
@@ -81,7 +81,7 @@ fn warm_bounds(
 ) -> Result<Option<Warm>, NoMemory>
     requires rows { rows.now ≡ system job.now extent [] }
     requires high { extent ≤ job.now.printer.grid }
-    ensures { IfOk result (λ made. IfSome made (λ warm. HasRows warm (2 * length job.now.objects) rows.now)) }
+    ensures { IfOk result (λ made. IfSome made (λ warm. HasOnlyRows warm (2 * length job.now.objects) rows.now)) }
 {
     let mut warm = Warm::new(alloc, 2 * job.objects.len() as u32)?;
     if add_all(&mut warm, alloc, rows)? {

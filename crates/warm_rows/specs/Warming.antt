@@ -6,9 +6,9 @@
 --                             have changed places
 --   standing vars steps       where they stand after steps from a system without rows
 --   Gives vars steps table    what the steps give from a system without rows: the table with the variables there, of their rows
---   nothing vars              without a step: the table of no rows
+--   no_steps vars             without a step: the table of no rows
 --   with_step w step table    one step more, with the table afterwards
---   Adds old new row added    what has become of the row
+--   AddsRow old new row added   what has become of the row
 --   IsRowStep step, IsPivot step, ArePivots steps     it is a row; it is a pivot; each of them is one
 --   AddsPivots old new        some pivots more, and nothing else
 --   SomeEndsWide vars rows start, WalksWide w     the walk from a start, from the basis of the table, ends before a wide basis
@@ -65,16 +65,16 @@ pub record Gives (vars : ℕ) (steps : List Step) (table : Seen) : Type 0 where
   pub free : table.free ≡ (standing vars steps).free
   pub is_of : IsOf (rows_of steps) table
 
-abbrev pub nothing : ℕ → Warmth
-nothing vars = record { vars = vars; steps = []; table = start vars [] }
+abbrev pub no_steps : ℕ → Warmth
+no_steps vars = record { vars = vars; steps = []; table = start vars [] }
 
 abbrev pub with_step : Warmth → Step → Seen → Warmth
 with_step w step table = record { vars = w.vars; steps = w.steps ++ step ∷ []; table = table }
 
-abbrev pub Adds : Warmth → Warmth → Row → Added → Type 0
-Adds old new row Addeds.Held =
+abbrev pub AddsRow : Warmth → Warmth → Row → Added → Type 0
+AddsRow old new row Addeds.Held =
     All Small (line_of old.table row) × (new ≡ with_step old (Steps.Row row) (with_row old.table row))
-Adds old new row Addeds.Cold = (All Small (line_of old.table row) → ⊥) × (new ≡ old)
+AddsRow old new row Addeds.Cold = (All Small (line_of old.table row) → ⊥) × (new ≡ old)
 
 abbrev pub IsPivot : Step → Type 0
 IsPivot (Steps.Row row) = ⊥

@@ -3,7 +3,7 @@ ghost use Rattle.integer_laws.specs.Vectors.{zeros};
 ghost use Rattle.row_dictionary.specs.Scans.{IsSmallRow};
 ghost use Rattle.seq_model.specs.Systems.{MeetsRows};
 ghost use Rattle.warm_rows.specs.Keeping.{Kept};
-ghost use Rattle.warm_rows.specs.Warming.{Adds, AddsPivots, Gives, IsRowStep, IsZeroPoint, Repairs, nothing, rows_of};
+ghost use Rattle.warm_rows.specs.Warming.{AddsRow, AddsPivots, Gives, IsRowStep, IsZeroPoint, Repairs, no_steps, rows_of};
 
 use crate::answering::answer;
 use crate::step::{Added, Mark, Step, Warmed};
@@ -46,7 +46,7 @@ fn copy_of(alloc: Global, row: &Row) -> Result<Row, AllocError>
 impl Warm {
     /// A system of so many variables without rows.
     pub fn new(alloc: Global, vars: u32) -> Result<Warm, NoMemory>
-        ensures { IfOk result (λ warm. warm ≡ nothing vars) }
+        ensures { IfOk result (λ warm. warm ≡ no_steps vars) }
     {
         Ok(Warm {
             vars,
@@ -123,7 +123,7 @@ impl Warm {
         requires long { length row.now.a ≡ self.old.vars }
         requires small { IsSmallRow row.now }
         requires count { self.old.vars + length (rows_of self.old.steps) + 1 < 2 ^ 32 }
-        ensures is { IfOk result (Adds self.old self.new row.now) }
+        ensures is { IfOk result (AddsRow self.old self.new row.now) }
         ensures unchanged { OnErr result (self.new ≡ self.old) }
         ensures kept { Kept self.new.vars self.new.steps self.new.table }
     {
