@@ -13,6 +13,18 @@ pub fn lone_rows_of(alloc: Global, rows: &[(i64, [i64; 2])]) -> Result<Vec<Row>,
     Ok(made)
 }
 
+/// Rows of one variable, or else of two.
+pub fn rows_over(
+    alloc: Global,
+    vars: u32,
+    rows: &[(i64, [i64; 2])],
+) -> Result<Vec<Row>, AllocError> {
+    if vars == 1 {
+        return lone_rows_of(alloc, rows);
+    }
+    rows_of(alloc, rows)
+}
+
 /// Rows of two variables, each a constant and its coefficients.
 pub fn rows_of(alloc: Global, rows: &[(i64, [i64; 2])]) -> Result<Vec<Row>, AllocError> {
     let mut made = Vec::new(alloc);

@@ -1,4 +1,4 @@
-use crate::rows::rows_of;
+use crate::rows::rows_over;
 use feasible_point::{Solved, solve};
 use row_dictionary::{are_rows_of, are_small_rows};
 use std::alloc::Global;
@@ -106,6 +106,13 @@ static SOLVED: [(&[(i64, [i64; 2])], Found); 13] = [
 fn found_in(solved: &Solved) -> Found {
     match solved {
         Solved::Point { den, nums } => {
+            if nums.len() == 1 {
+                return Found::Point {
+                    den: *den,
+                    x: nums[0],
+                    y: 0,
+                };
+            }
             if nums.len() == 2 {
                 return Found::Point {
                     den: *den,
@@ -138,27 +145,35 @@ fn found_in(solved: &Solved) -> Found {
     }
 }
 
-fn solved_of(alloc: Global, rows: &[(i64, [i64; 2])]) -> Option<Solved> {
-    let Ok(rows) = rows_of(alloc, rows) else {
+fn solved_of(alloc: Global, vars: u32, rows: &[(i64, [i64; 2])]) -> Option<Solved> {
+    let Ok(rows) = rows_over(alloc, vars, rows) else {
         return None;
     };
-    if rows.len() > 100 || !are_rows_of(2, &rows) || !are_small_rows(&rows) {
+    if vars > 2 || rows.len() > 100 || !are_rows_of(vars, &rows) || !are_small_rows(&rows) {
         return None;
     }
-    match solve(alloc, 2, &rows) {
+    match solve(alloc, vars, &rows) {
         Ok(solved) => Some(solved),
         Err(_) => None,
     }
 }
 
-fn answer(alloc: Global, rows: &[(i64, [i64; 2])]) -> Option<Found> {
-    let solved = solved_of(alloc, rows)?;
+fn answer(alloc: Global, vars: u32, rows: &[(i64, [i64; 2])]) -> Option<Found> {
+    let solved = solved_of(alloc, vars, rows)?;
     Some(found_in(&solved))
 }
 
 #[test]
 fn systems_of_two_variables(rt: HostRuntime) {
     for (rows, wanted) in &SOLVED {
-        assert_eq!(rt; answer(rt.alloc(), rows), Some(*wanted));
+        assert_eq!(rt; answer(rt.alloc(), 2, rows), Some(*wanted));
+    }
+}
+
+// The first two systems have one variable.
+#[test]
+fn systems_of_one_variable(rt: HostRuntime) {
+    for (rows, wanted) in &SOLVED[..2] {
+        assert_eq!(rt; answer(rt.alloc(), 1, rows), Some(*wanted));
     }
 }

@@ -1,4 +1,4 @@
-use crate::rows::{lone_rows_of, rows_of};
+use crate::rows::rows_over;
 use row_dictionary::{are_rows_of, are_small_rows};
 use seq_model::Row;
 use std::alloc::Global;
@@ -152,17 +152,10 @@ pub fn undo(warm: &mut Warm, steps: usize) -> Option<()> {
     Some(())
 }
 
-fn rows_over(alloc: Global, vars: u32, row: (i64, [i64; 2])) -> Option<Vec<Row>> {
-    if vars == 1 {
-        return lone_rows_of(alloc, &[row]).ok();
-    }
-    rows_of(alloc, &[row]).ok()
-}
-
 // Whether the row is held.
 fn add(alloc: Global, warm: &mut Warm, row: (i64, [i64; 2])) -> Option<bool> {
     let vars = warm.vars();
-    let Some(rows) = rows_over(alloc, vars, row) else {
+    let Ok(rows) = rows_over(alloc, vars, &[row]) else {
         return None;
     };
     if rows.len() != 1 || !are_rows_of(vars, &rows) || !are_small_rows(&rows) {

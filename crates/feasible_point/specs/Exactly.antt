@@ -1,14 +1,21 @@
--- When each answer comes: just where what it says is so.
+-- When each answer comes: just where what it says is so; and that it is read off where the walk ends.
 --
+--   IsPoint, IsContradiction, IsWideAnswer solved     which of the three it is
+--   SomePoint rows               some point meets all rows
 --   NoPoint rows                 no point meets all rows
 --   SomeWide vars rows           the walk from all slacks ends before a wide basis
 --   Exactly vars rows solved     each answer comes just where its case is so
-use Rattle.std.proofs.Common.{◌↔◌, ℕ, List, ℤ}
-use Rattle.feasible_point.specs.Answering.{NeverWide}
+--   IsWalked vars rows solved    the walk from all slacks ends at a table that answers so: the point is that of its basis, the contradiction
+--                                the line of the row in which nothing can enter
+use Rattle.std.proofs.Common.{◌≡◌, ◌↔◌, ℕ, List, ℤ}
+use Rattle.feasible_point.specs.Answering.{Answers, NeverWide}
+use Rattle.feasible_point.specs.Walked.{Walks, Ended}
+use Rattle.row_dictionary.specs.Seen.{Seen, IsOf, basis_of}
+use Rattle.row_dictionary.specs.declared.turn.Turn.{Turn}
 use Rattle.feasible_point.specs.declared.Solved.{Solved}
 use Rattle.feasible_point.specs.declared.Solved.TheVariants as Solveds
 use Rattle.seq_model.specs.Systems.{MeetsRows}
-use Rattle.seq_model.specs.Walks.{WalkWide}
+use Rattle.seq_model.specs.Walks.{WalkWide, slacks}
 use Rattle.seq_model.specs.declared.row.Row.{Row}
 
 abbrev pub IsPoint : Solved → Type 0
@@ -39,3 +46,12 @@ pub record Exactly (vars : ℕ) (rows : List Row) (solved : Solved) : Type 0 whe
   pub point : IsPoint solved ↔ (SomePoint rows × NeverWide vars rows)
   pub contradiction : IsContradiction solved ↔ (NoPoint rows × NeverWide vars rows)
   pub wide : IsWideAnswer solved ↔ SomeWide vars rows
+
+pub record IsWalked (vars : ℕ) (rows : List Row) (solved : Solved) : Type 0 where
+  pub table : Seen
+  pub turn : Turn
+  pub vars_are : table.vars ≡ vars
+  pub held : IsOf rows table
+  pub walks : Walks vars rows (slacks vars rows) (basis_of rows table)
+  pub ended : Ended rows table turn
+  pub answers : Answers table turn solved

@@ -81,7 +81,8 @@ fn warm_bounds(
 ) -> Result<Option<Warm>, NoMemory>
     requires rows { rows.now ≡ system job.now extent [] }
     requires high { extent ≤ job.now.printer.grid }
-    ensures { IfOk result (λ made. IfSome made (λ warm. HasOnlyRows warm (2 * length job.now.objects) rows.now)) }
+    ensures { IfOk result (λ made. IfSome made (λ warm.
+        HasOnlyRows warm (2 * length job.now.objects) rows.now)) }
 {
     let mut warm = Warm::new(alloc, 2 * job.objects.len() as u32)?;
     if add_all(&mut warm, alloc, rows)? {

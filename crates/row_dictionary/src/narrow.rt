@@ -199,7 +199,7 @@ fn and_narrow(narrow: bool, x: &i64) -> bool
     narrow && is_narrow(x)
 }
 
-/// The line, crossed, where the divisor is the factor: it stays as it is where what leaves has no number, and that has few.
+/// The line, crossed, where p is g: a place at which `by` is 0 keeps its number, and `by` is mostly zeros.
 fn cross_kept(line: &mut [i64], by: &[i64], mix: &Mix, g: &i32) -> bool
     requires mix { IsNarrowMix mix.now }
     requires some { 0 < unsigned_abs mix.now.g }
@@ -284,7 +284,7 @@ fn cross(line: &mut [i64], by: &[i64], mix: &Mix, g: &i32) -> bool
 }
 
 /// The line, pivoted, where all its numbers and all that it is multiplied by are below 2^30 in size; and whether its new
-/// numbers are so too.
+/// numbers are so too. Crossing leaves 0 at the place of what enters, so that its number is set last.
 pub fn pivot_narrow(line: &mut [i64], by: &[i64], mix: &Mix) -> bool
     requires mix { IsNarrowMix mix.now }
     requires g { 0 < unsigned_abs mix.now.g }

@@ -8,7 +8,9 @@ use crate::division::{divided, divides, is_factor};
 use integer_laws::{difference, wide_product};
 use seq_num::gcd;
 
-/// What a line is pivoted by.
+/// What a line is pivoted by: each number z of it becomes (p * z - q * y) / g, where y is that of what leaves, and at the
+/// place of what enters d * q / g. d is the old denominator, p and q the entries at that place of what leaves and of this
+/// line, and g the divisor, of either sign.
 #[derive(Clone, Copy, Debug)]
 pub struct Mix {
     pub d: i64,

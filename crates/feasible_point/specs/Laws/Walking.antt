@@ -2,7 +2,6 @@
 --
 --   table count d basic free lines     a table with its variables in order
 --   steps_of rows t                    how many turns are left
---   Reached vars rows basis            the walk from all slacks comes to the basis
 --   pivots_to, next_is                 where something leaves and something enters, the basis of both is the next one, and its table the next table
 --   stops_point, stops_none            where nothing leaves, or nothing can enter, the walk stops
 use Rattle.std.proofs.Common.{◌≡◌, ◌≢◌, ℕ, zero, suc, ◌+◌, ◌<◌, ◌≤◌, ◌^◌, List, [], ◌∷◌, ◌++◌, length, map, get_or, refl, ap, ap₂, sym, subst, ◌∙◌, arith, ℤ, pos, ◌≤ℤ◌, ◌<ℤ◌, ◌⊎◌, inl, inr, true, false, Some, None, Contains, ◌↔◌}
