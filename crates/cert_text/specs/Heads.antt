@@ -29,6 +29,7 @@ use Rattle.cert_text.specs.declared.nodes.Fault.TheVariants as faults
 use Rattle.cert_text.specs.Lines.{number_at, numbers_at, is_far, line_at}
 use Rattle.cert_text.specs.Nodes.{IsRefusedAt}
 use Rattle.cert_text.specs.TreeText.{first_line, extent_word}
+use Rattle.seq_limits.specs.declared.TheConstants.{MOST_GRID}
 
 abbrev pub rising : ℤ → List ℤ → Bool
 rising low [] = true
@@ -83,7 +84,7 @@ extended kind bytes (Some x) = headed kind x.0 x.1
 
 abbrev pub begun : Kind → List ℕ → Option (List ℕ) → Result (Head × List ℕ) CertRead
 begun kind bytes None = Err (refusal 1 what.Header bytes)
-begun kind bytes (Some rest) = extended kind rest (number_line_at (extent_word kind) 1_000 rest)
+begun kind bytes (Some rest) = extended kind rest (number_line_at (extent_word kind) MOST_GRID rest)
 
 unfoldable pub head_at : Kind → List ℕ → Result (Head × List ℕ) CertRead
 head_at kind bytes = begun kind bytes (literal_at (first_line kind) bytes)

@@ -22,6 +22,7 @@ use Rattle.cert_text.specs.declared.lines.Form.TheVariants.{Order, Side, Cycle}
 use Rattle.cert_text.specs.declared.lines.Stop.{Stop}
 use Rattle.cert_text.specs.declared.lines.Stop.TheVariants.{Unended, Other, Range, Big}
 use Rattle.cert_text.specs.declared.pairs.Pair.{Pair}
+use Rattle.seq_limits.specs.declared.TheConstants.{MOST_OBJECTS}
 
 abbrev pub ends_line : List ℕ → Bool
 ends_line bytes = is_some (literal_at (codes "\n") bytes)
@@ -90,7 +91,7 @@ mults_of pairs = if list_any is_far_pair pairs then Err Range else (if list_any 
 abbrev pub room_of : Form → ℕ
 room_of Order = 2
 room_of Side = 6
-room_of Cycle = 16
+room_of Cycle = MOST_OBJECTS
 
 abbrev pub number_or : List ℤ → ℕ → ℤ
 number_or ns k = slice_index_or ns k (pos 0)

@@ -12,12 +12,13 @@ use Rattle.text_lines.specs.Reading.{has_line_end}
 use Rattle.cert_text.specs.declared.lines.Stop.{Stop}
 use Rattle.cert_text.specs.declared.nodes.Fault.{Fault}
 use Rattle.cert_text.specs.declared.nodes.Fault.TheVariants as faults
+use Rattle.seq_limits.specs.declared.TheConstants.{MOST_NODES}
 
 abbrev pub Line : Type 0
 Line = List ℕ → Result (Node × List ℕ) Stop
 
 abbrev pub most_deep : ℕ
-most_deep = 1_000_000
+most_deep = MOST_NODES
 
 abbrev pub LinesRead : Line → List ℕ → List Node → List ℕ → Type 0
 LinesRead line bytes [] rest = bytes ≡ rest

@@ -31,6 +31,7 @@ use Rattle.cert_text.specs.declared.block.Head.{Head}
 use Rattle.cert_text.specs.declared.block.Kind.{Kind}
 use Rattle.cert_text.specs.declared.block.Kind.TheVariants.{Certificate, OpenBudget, OpenWide}
 use Rattle.cert_text.specs.declared.pairs.Pair.{Pair}
+use Rattle.seq_limits.specs.declared.TheConstants.{MOST_GRID, MOST_NODES, MOST_OBJECTS}
 
 abbrev pub number_text : List ℕ → ℤ → List ℕ
 number_text sep n = sep ++ spelling n
@@ -119,7 +120,7 @@ abbrev pub IsSpelt : Node → Type 0
 IsSpelt (Nodes.Order i j) = (i < 2 ^ 32) × (j < 2 ^ 32)
 IsSpelt (Nodes.Side contact children) = IsSpeltContact contact × (1 ≤ children) × (children < 2 ^ 32)
 IsSpelt (Nodes.Bound mults) = IsBoundLine (map pair_of mults) × All IsSpeltMult mults
-IsSpelt (Nodes.Cycle objects) = (1 ≤ length objects) × (length objects ≤ 16) × All (λ k. k < 2 ^ 32) objects
+IsSpelt (Nodes.Cycle objects) = (1 ≤ length objects) × (length objects ≤ MOST_OBJECTS) × All (λ k. k < 2 ^ 32) objects
 IsSpelt Nodes.Pending = Unit {0}
 
 pub record IsSpeltNote (note : WideNote) : Type 0 where
@@ -138,12 +139,12 @@ HasNote OpenWide (Some note) = IsSpeltNote note
 
 pub record IsSpeltHead (h : Head) : Type 0 where
   pub extent_low : 1 ≤ h.extent
-  pub extent_high : h.extent ≤ 1_000
+  pub extent_high : h.extent ≤ MOST_GRID
   pub wide : HasNote h.kind h.wide
 
 pub record IsTreeText (bytes : List ℕ) (kind : Kind) (h : Head) (t : Tree) : Type 0 where
   pub kind_is : h.kind ≡ kind
   pub head : IsSpeltHead h
   pub nodes : All IsSpelt t.nodes
-  pub whole : IsWholeWithin 1_000_000 t
+  pub whole : IsWholeWithin MOST_NODES t
   pub text : bytes ≡ tree_text h t

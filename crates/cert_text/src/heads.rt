@@ -11,6 +11,7 @@ use crate::lines::any_far;
 use crate::numbers::{number, numbers};
 use crate::{CertRead, Head, Kind};
 use owned_lists::Items;
+use seq_limits::MOST_GRID;
 use seq_model::{What, WideNote};
 use std::alloc::{AllocError, Global};
 use text_lines::{has_line_end, literal, number_line, whole};
@@ -152,7 +153,7 @@ pub(crate) fn read_head(alloc: Global, bytes: &[u8], kind: Kind) -> Result<(Head
     let Some(rest) = literal(bytes, kind.first_line()) else {
         return Err(refusal(bytes, 1, What::Header));
     };
-    let Some((extent, after)) = number_line(rest, kind.extent_word(), 1_000) else {
+    let Some((extent, after)) = number_line(rest, kind.extent_word(), u64::from(MOST_GRID)) else {
         return Err(refusal(rest, 2, What::Extent));
     };
     let extent = extent as u32;

@@ -9,6 +9,7 @@ use crate::mults::mults_of_pairs;
 use crate::numbers::numbers;
 use crate::pairs::bound_line;
 use owned_lists::Items;
+use seq_limits::MOST_OBJECTS;
 use seq_model::{Contact, Node};
 use std::alloc::{AllocError, Global};
 use text_lines::{has_line_end, literal};
@@ -48,7 +49,7 @@ impl Form {
         match self {
             Form::Order => 2,
             Form::Side => 6,
-            Form::Cycle => 16,
+            Form::Cycle => MOST_OBJECTS,
         }
     }
 

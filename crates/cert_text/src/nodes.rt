@@ -6,6 +6,7 @@ ghost use Rattle.cert_text.specs.Nodes.{AreTree, IsRefusedAt};
 ghost use Rattle.cert_text.specs.Laws.Counting.{IsOpening, IsNear, due};
 
 use crate::lines::{LineFault, Stop, node_line};
+use seq_limits::MOST_NODES;
 use seq_model::Node;
 use std::alloc::{AllocError, Global};
 use text_lines::has_line_end;
@@ -133,7 +134,7 @@ pub(crate) fn read_nodes(alloc: Global, bytes: &[u8]) -> Result<Vec<Node>, Fault
             Err(LineFault::NoMemory) => return Err(Fault::NoMemory),
             Err(LineFault::Stop(stop)) => return Err(Fault::Stopped(number, stop)),
             Ok((node, after)) => {
-                if depth > 1_000_000 {
+                if u64::from(depth) > MOST_NODES {
                     return Err(Fault::Deep(number));
                 }
                 open(&mut openings, children(&node), depth + 1)?;

@@ -9,6 +9,7 @@ use Rattle.decimal_lengths.specs.declared.scanning.Phase.TheVariants as Phases
 use Rattle.decimal_lengths.specs.Decimals.{signed}
 use Rattle.decimal_lengths.specs.Scanning.{State, reading}
 use Rattle.decimal_lengths.specs.Sizes.{size_of}
+use Rattle.seq_limits.specs.declared.TheConstants.{FARTHEST}
 
 abbrev pub is_complete : Phase → Bool
 is_complete Phases.Whole = true
@@ -17,7 +18,7 @@ is_complete Phases.Exponent = true
 is_complete _ = false
 
 abbrev pub if_near : ℤ → Option ℤ
-if_near um = if nat_le (unsigned_abs um) 10_000_000 then Some um else None
+if_near um = if nat_le (unsigned_abs um) FARTHEST then Some um else None
 
 abbrev pub length_behind : Option State → Option ℤ
 length_behind None = None

@@ -6,6 +6,7 @@
 use Rattle.std.specs.Prelude.{◌≡◌, ℕ, suc, ℤ, pos, negsuc, ◌+ℤ◌, ◌*ℤ◌, ◌^◌, ◌≤◌, List, length, unsigned_abs}
 use Rattle.seq_num.specs.Nearest.{IsNearest}
 use Rattle.decimal_lengths.specs.Decimals.{IsDecimal, mantissa, power}
+use Rattle.seq_limits.specs.declared.TheConstants.{FARTHEST}
 
 abbrev pub IsRounded : ℤ → ℤ → ℤ → Type 0
 IsRounded m (pos k) q = q ≡ m *ℤ pos (10 ^ k)
@@ -18,4 +19,4 @@ pub record IsLength (bytes : List ℕ) (um : ℤ) : Type 0 where
 pub record IsReadAs (bytes : List ℕ) (um : ℤ) : Type 0 where
   pub short : length bytes ≤ 64
   pub value : IsLength bytes um
-  pub near : unsigned_abs um ≤ 10_000_000
+  pub near : unsigned_abs um ≤ FARTHEST

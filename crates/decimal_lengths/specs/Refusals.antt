@@ -10,6 +10,7 @@ use Rattle.decimal_lengths.specs.declared.Decimal.{Decimal}
 use Rattle.decimal_lengths.specs.declared.Decimal.TheVariants.{Empty, TooLong, BadByte, NoDigit, TooFar}
 use Rattle.decimal_lengths.specs.Decimals.{IsDecimal, BeginsDecimal}
 use Rattle.decimal_lengths.specs.Lengths.{IsLength, IsReadAs}
+use Rattle.seq_limits.specs.declared.TheConstants.{FARTHEST}
 
 pub record IsFirstBad (bytes : List ℕ) (p : ℕ) : Type 0 where
   pub within : p < length bytes
@@ -25,7 +26,7 @@ pub record IsUnfinished (bytes : List ℕ) : Type 0 where
 pub record IsFar (bytes : List ℕ) : Type 0 where
   pub um : ℤ
   pub value : IsLength bytes um
-  pub far : 10_000_000 < unsigned_abs um
+  pub far : FARTHEST < unsigned_abs um
 
 abbrev pub Refuses : List ℕ → Decimal → Type 0
 Refuses bytes Empty = bytes ≡ []

@@ -9,6 +9,7 @@ use Rattle.std.specs.Prelude.{◌≡◌, ℕ, ◌+◌, ◌*◌, ◌^◌, ◌<◌
 use Rattle.seq_num.specs.Nearest.{half_up}
 use Rattle.decimal_lengths.specs.declared.scanning.Number.{Number}
 use Rattle.decimal_lengths.specs.Scanning.{Spelled, is_minus}
+use Rattle.seq_limits.specs.declared.TheConstants.{FARTHEST}
 
 abbrev pub ups : Spelled → ℕ
 ups x = 3 + (if is_minus x.exponent_sign then 0 else x.exponent)
@@ -24,5 +25,5 @@ pub record IsShift (number : Number) (up down : ℕ) : Type 0 where
   pub down_is : down ≡ number.fraction + (if number.exponent_negative then number.exponent else 0)
 
 abbrev pub IsUpTo : ℕ → Option ℕ → Type 0
-IsUpTo n None = 10_000_000 < n
-IsUpTo n (Some size) = (size ≡ n) × (size ≤ 10_000_000)
+IsUpTo n None = FARTHEST < n
+IsUpTo n (Some size) = (size ≡ n) × (size ≤ FARTHEST)

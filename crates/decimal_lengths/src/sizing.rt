@@ -6,9 +6,7 @@ ghost use Rattle.decimal_lengths.specs.Scanning.{Spelled, Keeps, IsCounted};
 ghost use Rattle.decimal_lengths.specs.Sizes.{IsShift, size_of, IsUpTo};
 
 use crate::scanning::Number;
-
-/// The greatest size of a length, in µm.
-const GREATEST: u64 = 10_000_000;
+use seq_limits::FARTHEST;
 
 /// The size of the length in µm, rounded, unless it is above the greatest.
 pub fn size(number: &Number) -> Option<u64>
@@ -45,7 +43,7 @@ fn raised(kept: u64, by: u32) -> Option<u64>
         return Some(0);
     }
     // 10 ^ 8 is above the greatest.
-    if kept > GREATEST || by > 7 {
+    if kept > u64::from(FARTHEST) || by > 7 {
         return None;
     }
     up_to_greatest(kept * 10u64.pow(by))
@@ -68,5 +66,5 @@ fn lowered(kept: u64, by: u32) -> Option<u64>
 fn up_to_greatest(size: u64) -> Option<u64>
     ensures { IsUpTo size result }
 {
-    (size <= GREATEST).then_some(size)
+    (size <= u64::from(FARTHEST)).then_some(size)
 }

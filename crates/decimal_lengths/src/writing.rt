@@ -5,6 +5,7 @@ ghost use Rattle.decimal_lengths.specs.Lengths.{IsReadAs};
 ghost use Rattle.decimal_lengths.specs.Spelling.{millimetres, thousandths, sign_of_length};
 
 use itoa::Buffer;
+use seq_limits::FARTHEST;
 
 /// Writes a length of so many µm to the front, in millimetres, and gives the number of bytes: a sign, the whole part,
 /// and, unless it is whole, a point and one to three digits without a zero at the end.
@@ -12,7 +13,7 @@ pub fn write_um(um: i64, to: &mut [u8; 24]) -> usize
     ensures within { result ≤ 24 }
     ensures spelled { take result to.new ≡ millimetres um }
     ensures rest { drop result to.new ≡ drop result to.old }
-    ensures read_back { unsigned_abs um ≤ 10_000_000 → IsReadAs (take result to.new) um }
+    ensures read_back { unsigned_abs um ≤ FARTHEST → IsReadAs (take result to.new) um }
 {
     let size = um.unsigned_abs();
     let mut buffer = Buffer::new();

@@ -1,6 +1,7 @@
 -- Walks by the least-index rule from any basis, and what is read where one ends.
 --
 --   Reached vars rows start basis   bases of which each follows from the one before by a pivot that isn't wide lead from the start to the basis
+--   ReachedAt rows start t          they lead to the basis of the table
 --   Walks vars rows start last      the walk from the start ends at the last basis
 --   WalksFrom rows old new          the walk from the basis of one table ends at that of the other
 --   NothingToLeave t                no constant of a basic variable is negative
@@ -19,6 +20,9 @@ use Rattle.seq_model.specs.declared.row.Row.{Row}
 
 abbrev pub Reached : ℕ → List Row → List ℕ → List ℕ → Type 0
 Reached vars rows start basis = (before : List (List ℕ)) × (slice_get (before ++ basis ∷ []) 0 ≡ Some start) × Follow vars rows (before ++ basis ∷ [])
+
+abbrev pub ReachedAt : List Row → List ℕ → Seen → Type 0
+ReachedAt rows start t = Reached t.vars rows start (basis_of rows t)
 
 pub record Walks (vars : ℕ) (rows : List Row) (start last : List ℕ) : Type 0 where
   pub before : List (List ℕ)

@@ -3,6 +3,7 @@ ghost use Rattle.std.specs.Ordering.{is_eq};
 ghost use Rattle.mesh_checks.specs.Edges.{edge, edges, open_edges};
 ghost use Rattle.mesh_checks.specs.Runs.{point_cmp, ends_cmp, half_edge_of, half_edges, sign_of, all_runs, IsAscending};
 
+use seq_limits::MOST_FACETS;
 use seq_model::{Facet, Point3};
 use std::alloc::{AllocError, Global};
 use std::cmp::Ordering;
@@ -62,7 +63,7 @@ fn add_half_edge(half_edges: &mut Vec<HalfEdge>, from: Point3, to: Point3) -> Re
 }
 
 fn half_edges_of(alloc: Global, facets: &[Facet]) -> Result<Vec<HalfEdge>, AllocError>
-    requires { length facets.now ≤ 200_000 }
+    requires { length facets.now ≤ MOST_FACETS }
     ensures { IfOk result (λ list. list.items ≡ half_edges (edges facets.now)) }
 {
     let mut half_edges = Vec::with_capacity(alloc, 3 * facets.len())?;
@@ -119,7 +120,7 @@ fn count_runs(half_edges: &[HalfEdge]) -> u64
 
 // In ascending order the half-edges along one edge stand beside each other.
 pub fn count_open(alloc: Global, facets: &[Facet]) -> Result<u64, AllocError>
-    requires { length facets.now ≤ 200_000 }
+    requires { length facets.now ≤ MOST_FACETS }
     ensures { IfOk result (λ count. count ≡ open_edges facets.now) }
 {
     let half_edges = ascending(half_edges_of(alloc, facets)?);

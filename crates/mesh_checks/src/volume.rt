@@ -3,6 +3,7 @@ ghost use Rattle.seq_model.specs.Bounds.{IsNearFacet};
 ghost use Rattle.mesh_checks.specs.Volumes.{cross, dot, six_volume};
 
 use integer_laws::{difference, product, sum, wide_product};
+use seq_limits::MOST_FACETS;
 use seq_model::Facet;
 
 // One coordinate of a cross product: coordinates of at most 10 m in µm are below 2^24.
@@ -41,7 +42,7 @@ fn tetrahedron_six_volume(facet: &Facet) -> i128
 }
 
 pub fn sum_six_volumes(facets: &[Facet]) -> i128
-    requires few { length facets.now ≤ 200_000 }
+    requires few { length facets.now ≤ MOST_FACETS }
     requires near { All IsNearFacet facets.now }
     ensures { result ≡ six_volume facets.now }
 {

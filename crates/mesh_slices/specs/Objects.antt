@@ -24,6 +24,7 @@ use Rattle.seq_model.specs.Soundness.{IsSoundObject}
 use Rattle.outline_laws.specs.Corners.{AreCorners}
 use Rattle.mesh_slices.specs.declared.slice.Slice.{Slice}
 use Rattle.mesh_slices.specs.declared.slice.Slice.TheVariants.{Flat, TooTall, NoMemory}
+use Rattle.seq_limits.specs.declared.TheConstants.{MOST_BANDS}
 
 -- the spots of a mesh in band b
 abbrev pub spots_in : Printer → List Facet → ℕ → List Spot
@@ -70,12 +71,12 @@ pub record IsObjectOf (name : List ℕ) (facets : List Facet) (printer : Printer
 -- the mesh has a facet, and at most 200 bands
 pub record CanBeSliced (facets : List Facet) (step : ℤ) : Type 0 where
   pub some : facets ≢ []
-  pub few : band_count facets step ≤ 200
+  pub few : band_count facets step ≤ MOST_BANDS
 
 pub record IsTooTall (facets : List Facet) (step : ℤ) (bands : ℕ) : Type 0 where
   pub some : facets ≢ []
   pub count : bands ≡ band_count facets step
-  pub many : 200 < bands
+  pub many : MOST_BANDS < bands
 
 -- why a mesh isn't sliced: it has no facet; or more than 200 bands, and then their number; or it could be, but for want of memory
 abbrev pub IsRefusedAs : List Facet → ℤ → Slice → Type 0

@@ -9,6 +9,7 @@ ghost use Rattle.mesh_slices.specs.Objects.{spots_in};
 use crate::extremes::extremes_of;
 use crate::grains::{ceil_of, spot_above, spot_below};
 use crate::points::rise_of;
+use seq_limits::FARTHEST;
 use seq_model::{Facet, Point3, Printer, Spot};
 
 /// What a mesh measures: the least and the greatest spot coordinates over all bands, in grains; its least z and its height,
@@ -62,7 +63,7 @@ pub fn measure_of(printer: &Printer, facets: &[Facet]) -> Measure
         (spots_in printer.now facets.now)
         result.low result.high }
     ensures bottom { result.bottom ≡ least_z facets.now }
-    ensures bottom_near { unsigned_abs result.bottom ≤ 10_000_000 }
+    ensures bottom_near { unsigned_abs result.bottom ≤ FARTHEST }
     ensures height { result.height ≡ height_of facets.now }
     ensures bands { result.bands ≡ band_count facets.now printer.now.step }
 {

@@ -6,12 +6,13 @@ use crate::Slice;
 use crate::measure::measure_of;
 use crate::zones::zones_of;
 use owned_lists::{Items, Text};
+use seq_limits::MOST_BANDS;
 use seq_model::{Facet, Mesh, Object, Printer};
 use std::alloc::Global;
 
 // A number of bands as an object has it.
 fn few_bands(bands: u64) -> u32
-    requires { bands ≤ 200 }
+    requires { bands ≤ MOST_BANDS }
     ensures { result ≡ bands }
 {
     bands as u32
@@ -38,7 +39,7 @@ pub fn object(alloc: Global, name: &str, mesh: &Mesh, printer: &Printer) -> Resu
         return Err(Slice::Flat);
     }
     let measure = measure_of(printer, facets);
-    if measure.bands > 200 {
+    if measure.bands > u64::from(MOST_BANDS) {
         return Err(Slice::TooTall(measure.bands));
     }
     let bands = few_bands(measure.bands);

@@ -5,6 +5,7 @@ ghost use Rattle.seq_model.specs.Bounds.{IsNear, IsNearFacet};
 ghost use Rattle.mesh_slices.specs.CornerPoints.{as_point, points_of, Adds};
 
 use crate::corner::{CornerPoint, Slab};
+use seq_limits::FARTHEST;
 use seq_model::{Facet, Point3};
 use smallvec::SmallVec;
 use std::alloc::{AllocError, Global};
@@ -14,7 +15,7 @@ pub type CornerPoints = SmallVec<CornerPoint, 9>;
 
 // A coordinate times a difference of heights.
 fn part_of(x: i64, rise: i64) -> i64
-    requires x { unsigned_abs x ≤ 10_000_000 }
+    requires x { unsigned_abs x ≤ FARTHEST }
     requires rise { unsigned_abs rise ≤ 20_000_000 }
     ensures value { result ≡ x *ℤ rise }
     ensures size { unsigned_abs result ≤ 200_000_000_000_000 }
@@ -24,9 +25,9 @@ fn part_of(x: i64, rise: i64) -> i64
 
 // The mean of two coordinates, times the sum of their weights, each of which is a difference of heights.
 fn mean_of(a: i64, weight_a: i64, b: i64, weight_b: i64) -> i64
-    requires a { unsigned_abs a ≤ 10_000_000 }
+    requires a { unsigned_abs a ≤ FARTHEST }
     requires weight_a { unsigned_abs weight_a ≤ 20_000_000 }
-    requires b { unsigned_abs b ≤ 10_000_000 }
+    requires b { unsigned_abs b ≤ FARTHEST }
     requires weight_b { unsigned_abs weight_b ≤ 20_000_000 }
     ensures value { result ≡ a *ℤ weight_a +ℤ b *ℤ weight_b }
     ensures size { unsigned_abs result ≤ 400_000_000_000_000 }
@@ -36,8 +37,8 @@ fn mean_of(a: i64, weight_a: i64, b: i64, weight_b: i64) -> i64
 
 /// How far one height lies above another, in µm.
 pub fn rise_of(from: i64, to: i64) -> i64
-    requires from { unsigned_abs from ≤ 10_000_000 }
-    requires to { unsigned_abs to ≤ 10_000_000 }
+    requires from { unsigned_abs from ≤ FARTHEST }
+    requires to { unsigned_abs to ≤ FARTHEST }
     ensures value { result ≡ to -ℤ from }
     ensures size { unsigned_abs result ≤ 20_000_000 }
 {

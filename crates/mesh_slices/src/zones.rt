@@ -7,6 +7,7 @@ ghost use Rattle.mesh_slices.specs.Runs.{AreRunsOf};
 use crate::corner::Slab;
 use crate::outline::outline_of;
 use owned_lists::Items;
+use seq_limits::{FARTHEST, MOST_BANDS, MOST_STEP};
 use seq_model::{Facet, Printer, Spot, Zone};
 use seq_num::NoMemory;
 use std::alloc::{AllocError, Global};
@@ -100,8 +101,8 @@ fn add_band(zones: &mut Vec<Zone>, corners: Vec<Spot>, band: u32) -> Result<(), 
 // How far a band lies above the bottom.
 fn lift_of(step: i64, band: u32) -> i64
     requires low { pos 1 ≤ℤ step }
-    requires high { step ≤ℤ pos 100_000 }
-    requires band { band < 200 }
+    requires high { step ≤ℤ MOST_STEP }
+    requires band { band < MOST_BANDS }
     ensures value { result ≡ step *ℤ pos band }
     ensures size { unsigned_abs result ≤ 20_000_000 }
 {
@@ -110,10 +111,10 @@ fn lift_of(step: i64, band: u32) -> i64
 
 // The heights of a band of a mesh with this least z.
 fn slab_of(bottom: i64, step: i64, band: u32) -> Slab
-    requires bottom { unsigned_abs bottom ≤ 10_000_000 }
+    requires bottom { unsigned_abs bottom ≤ FARTHEST }
     requires low { pos 1 ≤ℤ step }
-    requires high { step ≤ℤ pos 100_000 }
-    requires band { band < 200 }
+    requires high { step ≤ℤ MOST_STEP }
+    requires band { band < MOST_BANDS }
     ensures low { result.low ≡ bottom +ℤ step *ℤ pos band }
     ensures high { result.high ≡ (bottom +ℤ step *ℤ pos band) +ℤ step }
 {
@@ -134,8 +135,8 @@ fn outline_at(
 ) -> Result<Vec<Spot>, NoMemory>
     requires near { All IsNearFacet facets.now }
     requires bottom { bottom ≡ least_z facets.now }
-    requires bottom_near { unsigned_abs bottom ≤ 10_000_000 }
-    requires band { band < 200 }
+    requires bottom_near { unsigned_abs bottom ≤ FARTHEST }
+    requires band { band < MOST_BANDS }
     ensures { IfOk result (λ corners. IsOutlineOf (spots_in printer.now facets.now band) corners.items) }
 {
     let slab = slab_of(bottom, printer.step, band);
@@ -152,8 +153,8 @@ pub fn zones_of(
 ) -> Result<Vec<Zone>, NoMemory>
     requires near { All IsNearFacet facets.now }
     requires bottom { bottom ≡ least_z facets.now }
-    requires bottom_near { unsigned_abs bottom ≤ 10_000_000 }
-    requires bands { bands ≤ 200 }
+    requires bottom_near { unsigned_abs bottom ≤ FARTHEST }
+    requires bands { bands ≤ MOST_BANDS }
     ensures { IfOk result (λ zones. AreRunsOf (spots_in printer.now facets.now) bands zones.items) }
 {
     let mut zones = Vec::new(alloc);

@@ -8,8 +8,7 @@ use Rattle.node_looks.specs.Sites.{Hits, HoldsAll, IsOnOrEarnedAt, IsSite, plan_
 use Rattle.node_looks.specs.declared.site.Site.{Site}
 use Rattle.object_orders.specs.Orders.{Graph, IsAmong, IsOrder, IsSimpleCycle}
 use Rattle.plan_laws.specs.Laws.Looking.{cycle_earns_each, order_is_valid}
-use Rattle.plan_laws.specs.Laws.OnPath.{is_before}
-use Rattle.plan_laws.specs.Looking.{AreForced, Causes, IsLooked}
+use Rattle.plan_laws.specs.Looking.{AreForced, Causes, IsLooked, is_before}
 use Rattle.seq_model.specs.Jobs.{scene_of_job}
 use Rattle.seq_model.specs.Scenes.{Valid}
 use Rattle.seq_model.specs.Trees.{IsCycle}

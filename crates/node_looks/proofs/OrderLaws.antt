@@ -8,8 +8,8 @@ use Rattle.std.specs.List.{AllZip}
 use Rattle.integer_laws.specs.Laws.Members.{In-from_contains, Contains-from_in}
 use Rattle.object_orders.specs.Orders.{Graph, IsAmong, IsSimpleCycle, ClosesCycle, EachNext}
 use Rattle.node_looks.specs.Held.{ComesBefore, IsTable, IsOrderOf, HoldsOrders}
-use Rattle.plan_laws.specs.Laws.OnPath.{is_before, before_is, is_on, never}
-use Rattle.plan_laws.specs.Looking.{OnPath}
+use Rattle.plan_laws.specs.Laws.OnPath.{before_is, is_on, never}
+use Rattle.plan_laws.specs.Looking.{OnPath, is_before}
 use Rattle.seq_model.specs.Trees.{IsCycle}
 use Rattle.seq_model.specs.declared.tree.Choice.{Choice}
 use Rattle.seq_model.specs.declared.tree.Choice.TheVariants as Choices

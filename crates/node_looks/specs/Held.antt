@@ -5,8 +5,7 @@
 --   HoldsOrders path n i j g   a graph of n objects holds the path's orders among them that come before (i, j), and no others
 use Rattle.std.specs.Prelude.{◌≡◌, ◌≢◌, ℕ, ◌+◌, ◌*◌, ◌<◌, ◌≤◌, ◌⊎◌, List, All, Bool, false, length, slice_index_or, Contains}
 use Rattle.object_orders.specs.Orders.{Graph, IsAmong}
-use Rattle.plan_laws.specs.Laws.OnPath.{is_before}
-use Rattle.plan_laws.specs.Looking.{OnPath}
+use Rattle.plan_laws.specs.Looking.{OnPath, is_before}
 use Rattle.seq_model.specs.declared.tree.Choice.{Choice}
 
 pub record IsTable (path : List Choice) (table : List Bool) : Type 0 where

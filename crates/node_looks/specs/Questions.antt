@@ -13,6 +13,7 @@ use Rattle.pair_constraints.specs.Maximal.{AreContacts}
 use Rattle.seq_model.specs.Systems.{system}
 use Rattle.seq_model.specs.Trees.{IsPath}
 use Rattle.seq_model.specs.declared.row.Row.{Row}
+use Rattle.seq_limits.specs.declared.TheConstants.{MOST_NODES}
 
 abbrev pub system_of : Question → List Row
 system_of q = system q.job.now q.extent q.path.now
@@ -21,7 +22,7 @@ pub record IsQuestion (q : Question) : Type 0 where
   pub from_one : 1 ≤ q.extent
   pub to_grid : q.extent ≤ q.job.now.printer.grid
   pub is_path : IsPath q.job.now q.path.now
-  pub short : length q.path.now ≤ 1_000_000
+  pub short : length q.path.now ≤ MOST_NODES
   pub are : AreContacts q.job.now q.contacts.now
 
 abbrev pub IsAnswer : Question → Look → Type 0

@@ -4,6 +4,7 @@ ghost use Rattle.seq_model.specs.Trees.{IsPath};
 ghost use Rattle.seq_model.specs.declared.job.Job.{Job};
 
 use owned_lists::Items;
+use seq_limits::MOST_NODES;
 use seq_model::{Choice, Job, Node, Plan};
 use seq_num::NoMemory;
 
@@ -38,7 +39,7 @@ pub trait Looks {
         requires low { 1 ≤ extent }
         requires high { extent ≤ job.now.printer.grid }
         requires path { IsPath job.now path.now }
-        requires short { length path.now ≤ 1_000_000 }
+        requires short { length path.now ≤ MOST_NODES }
         ensures stays { IsFor self.new job.now }
         ensures look { IfOk result (IsLook job.now extent path.now) }
         ensures zero { path.now ≡ [] → HasZeroPlan job.now extent → IfOk result (IsZeroLook job.now extent) };

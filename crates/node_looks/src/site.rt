@@ -1,7 +1,7 @@
 //! Where a look stands: at a point of a path, with all that is asked there.
 ghost use Rattle.std.specs.Prelude.{◌≡◌, ◌<◌, length};
 ghost use Rattle.node_looks.specs.Held.{IsTable};
-ghost use Rattle.plan_laws.specs.Laws.OnPath.{is_before};
+ghost use Rattle.plan_laws.specs.Looking.{is_before};
 
 use pair_constraints::{Contacts, SolvedPoint};
 use search_room::Room;

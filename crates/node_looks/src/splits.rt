@@ -14,6 +14,7 @@ use crate::advice::visit_of;
 use crate::site::Site;
 use owned_lists::Items;
 use pair_constraints::Kept;
+use seq_limits::MOST_OBJECTS;
 use seq_model::{Choice, Job, Node};
 use std::alloc::{AllocError, Global};
 
@@ -92,7 +93,7 @@ pub(crate) fn close_cycle(
     objects: &[u32],
 ) -> Result<Look, AllocError>
     requires cycle { IsCycle (OnPath path.now) objects.now }
-    requires few { length objects.now ≤ 16 }
+    requires few { length objects.now ≤ MOST_OBJECTS }
     ensures { IfOk result (IsLook job.now extent path.now) }
 {
     let objects = Vec::from_slice(alloc, objects)?;
@@ -115,7 +116,7 @@ fn next_in(objects: &[u32], k: usize) -> u32
 // Two neighbours of a cycle that aren't ordered so on the path.
 fn open_pair(site: &Site, objects: &[u32]) -> Option<(u32, u32)>
     requires site { IsSite site.now }
-    requires known { All (λ o. o < 16) objects.now }
+    requires known { All (λ o. o < MOST_OBJECTS) objects.now }
     requires cycle { IsCycle (IsOnOrEarnedAt site.now) objects.now }
     ensures { MatchOption result (IsCycle (OnPath site.now.path.now) objects.now)
         (λ o. EarnsPairAt site.now o.0 o.1) }
@@ -133,8 +134,8 @@ fn open_pair(site: &Site, objects: &[u32]) -> Option<(u32, u32)>
 /// What is to be done where a cycle of orders runs along the path but for pairs that may be split.
 pub(crate) fn cycle_look(alloc: Global, site: &Site, objects: &[u32]) -> Result<Look, AllocError>
     requires site { IsSite site.now }
-    requires known { All (λ o. o < 16) objects.now }
-    requires few { length objects.now ≤ 16 }
+    requires known { All (λ o. o < MOST_OBJECTS) objects.now }
+    requires few { length objects.now ≤ MOST_OBJECTS }
     requires cycle { IsCycle (IsOnOrEarnedAt site.now) objects.now }
     ensures { IfOk result (IsLookAt site.now) }
 {

@@ -18,6 +18,7 @@ use crate::advice::bounds_room;
 use crate::system::{row_of_side, system_rows};
 use order_graph::{Cycle, OrderGraph};
 use search_room::Room;
+use seq_limits::MOST_NODES;
 use seq_model::{Choice, Contact, Dir, Job, Row};
 use seq_num::NoMemory;
 use std::alloc::{AllocError, Global};
@@ -246,7 +247,7 @@ impl Trail {
         requires choice { slice_get path.now k ≡ Some (Choices.Side contact.now dir.now) }
         requires high { self.old.extent ≤ job.now.printer.grid }
         requires path { IsPath job.now path.now }
-        requires short { length path.now ≤ 1_000_000 }
+        requires short { length path.now ≤ MOST_NODES }
         ensures is { IfOk result (IsEntered job.now self.old.extent path.now k self.new) }
         ensures stays { OnOk result (IsTrail job.now self.new) }
     {
@@ -281,7 +282,7 @@ impl Trail {
         requires known { k < length path.now }
         requires high { self.old.extent ≤ job.now.printer.grid }
         requires path { IsPath job.now path.now }
-        requires short { length path.now ≤ 1_000_000 }
+        requires short { length path.now ≤ MOST_NODES }
         ensures is { IfOk result (IsEntered job.now self.old.extent path.now k self.new) }
         ensures stays { OnOk result (IsTrail job.now self.new) }
     {
@@ -296,7 +297,7 @@ impl Trail {
         requires trail { IsTrail job.now self.old }
         requires high { self.old.extent ≤ job.now.printer.grid }
         requires path { IsPath job.now path.now }
-        requires short { length path.now ≤ 1_000_000 }
+        requires short { length path.now ≤ MOST_NODES }
         ensures is { IfOk result (IsFollowed job.now self.old.extent path.now self.new) }
         ensures stays { OnOk result (IsTrail job.now self.new) }
     {

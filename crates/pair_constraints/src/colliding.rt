@@ -12,6 +12,7 @@ ghost use Rattle.pair_constraints.specs.Laws.Pairs.{PairHits, PartHits, ZoneHits
 
 use crate::overlaps::zones_overlap;
 use printer_envelopes::zones_meet;
+use seq_limits::{MOST_BANDS, MOST_OBJECTS};
 use seq_model::{Contact, Job, Part, Place, Zone};
 
 fn contact_overlaps(
@@ -67,7 +68,7 @@ fn first_part(
     scale: i128,
 ) -> Option<u32>
     requires parts { All IsSoundPart parts.now }
-    requires few { length parts.now ≤ 16 }
+    requires few { length parts.now ≤ MOST_OBJECTS }
     requires a { IsSoundZone a.now }
     requires b { IsSoundZone b.now }
     requires places { ArePlaces earlier.now later.now scale }
@@ -91,9 +92,9 @@ fn first_zone(
     scale: i128,
 ) -> Option<(u32, u32)>
     requires parts { All IsSoundPart parts.now }
-    requires few { length parts.now ≤ 16 }
+    requires few { length parts.now ≤ MOST_OBJECTS }
     requires zones { All IsSoundZone zones.now }
-    requires few_zones { length zones.now ≤ 200 }
+    requires few_zones { length zones.now ≤ MOST_BANDS }
     requires b { IsSoundZone b.now }
     requires places { ArePlaces earlier.now later.now scale }
     ensures { IsFirst (ZoneHits parts.now zones.now b.now
@@ -117,11 +118,11 @@ fn first_pair(
     scale: i128,
 ) -> Option<(u32, (u32, u32))>
     requires parts { All IsSoundPart parts.now }
-    requires few { length parts.now ≤ 16 }
+    requires few { length parts.now ≤ MOST_OBJECTS }
     requires zones { All IsSoundZone zones.now }
-    requires few_zones { length zones.now ≤ 200 }
+    requires few_zones { length zones.now ≤ MOST_BANDS }
     requires later_zones { All IsSoundZone later_zones.now }
-    requires few_later { length later_zones.now ≤ 200 }
+    requires few_later { length later_zones.now ≤ MOST_BANDS }
     requires places { ArePlaces earlier.now later.now scale }
     ensures { IsFirst (PairHits parts.now zones.now later_zones.now
         (place_point scale earlier.now) (place_point scale later.now))

@@ -9,10 +9,9 @@ use Rattle.plan_laws.specs.Audits.{BoxLiesIn, BoxOf}
 use Rattle.plan_laws.specs.Inside.{region_at}
 use Rattle.plan_laws.specs.Laws.Audits.{in_by_box}
 use Rattle.plan_laws.specs.Laws.ObjectSpans.{object_spans}
-use Rattle.plan_laws.specs.Laws.PlanPoints.{no_place}
 use Rattle.plan_audit.proofs.SizeLaws.{extremes_near}
 use Rattle.seq_model.specs.Bounds.{IsNearSpot}
-use Rattle.seq_model.specs.Jobs.{no_object, object_at, bands_of, scene_of_job}
+use Rattle.seq_model.specs.Jobs.{no_object, object_at, bands_of, scene_of_job, no_place}
 use Rattle.seq_model.specs.Scenes.{Scene, SomeSpot, Spans, LiesIn}
 use Rattle.seq_model.specs.declared.job.Job.{Job}
 use Rattle.seq_model.specs.declared.job.Object.{Object}

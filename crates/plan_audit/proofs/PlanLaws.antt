@@ -12,8 +12,7 @@ use Rattle.plan_laws.specs.Audits.{BoxOf}
 use Rattle.plan_laws.specs.Inside.{region_at, IsInside}
 use Rattle.plan_laws.specs.Laws.Audits.{in_by_box, no_repeat}
 use Rattle.plan_laws.specs.Laws.Ordered.{count_one, count_none}
-use Rattle.plan_laws.specs.Laws.PlanPoints.{no_place}
-use Rattle.seq_model.specs.Jobs.{no_part, scene_of_job}
+use Rattle.seq_model.specs.Jobs.{no_part, scene_of_job, no_place}
 use Rattle.seq_model.specs.Points.{place_point}
 use Rattle.seq_model.specs.Scenes.{Scene, LiesIn, Meets, Overlap, Collides, Valid}
 use Rattle.seq_model.specs.declared.job.Job.{Job}

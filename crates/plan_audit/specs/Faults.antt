@@ -14,8 +14,7 @@
 --                                 kinds before: stray, absent, off the plate, hits
 use Rattle.std.specs.Prelude.{◌≡◌, ℕ, ℤ, ◌<◌, ◌≤◌, ◌⊎◌, List, length, Option, Some, None, slice_index_or}
 use Rattle.plan_audit.specs.Firsts.{IsFirst, Less, Sooner}
-use Rattle.plan_laws.specs.Laws.PlanPoints.{no_place}
-use Rattle.seq_model.specs.Jobs.{no_part}
+use Rattle.seq_model.specs.Jobs.{no_part, no_place}
 use Rattle.seq_model.specs.Plates.{region_of}
 use Rattle.seq_model.specs.Points.{place_point}
 use Rattle.seq_model.specs.Scenes.{Scene, SomeSpot, LiesIn, Meets, Overlap, Valid}

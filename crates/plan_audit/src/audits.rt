@@ -11,6 +11,7 @@ ghost use Rattle.seq_model.specs.Scenes.{Valid};
 use crate::hits::first_hit;
 use crate::places::{first_absent, first_off, first_stray};
 use crate::{Hit, Verdict};
+use seq_limits::MOST_OBJECTS;
 use seq_model::{Job, Place, Plan};
 
 fn first_fault(job: &Job, extent: u32, places: &[Place], scale: i128) -> Verdict
@@ -18,7 +19,7 @@ fn first_fault(job: &Job, extent: u32, places: &[Place], scale: i128) -> Verdict
     requires to_grid { extent ≤ job.now.printer.grid }
     requires one { pos 1 ≤ℤ scale }
     requires scale { unsigned_abs scale < 2 ^ 62 }
-    requires few { length places.now ≤ 16 }
+    requires few { length places.now ≤ MOST_OBJECTS }
     requires roomy { All IsRoomy places.now }
     ensures { IsVerdict (scene_of_job job.now) extent
         (record { scale = scale; places = places.now }) result }
@@ -44,7 +45,7 @@ pub fn audit(job: &Job, extent: u32, plan: &Plan) -> Verdict
     requires to_grid { extent ≤ job.now.printer.grid }
     requires one { pos 1 ≤ℤ plan.now.scale }
     requires scale { unsigned_abs plan.now.scale < 2 ^ 62 }
-    requires few { length plan.now.places ≤ 16 }
+    requires few { length plan.now.places ≤ MOST_OBJECTS }
     requires roomy { All IsRoomy plan.now.places }
     ensures good { (result ≡ Verdicts.Good) ↔ Valid (scene_of_job job.now) extent plan.now }
     ensures verdict { IsVerdict (scene_of_job job.now) extent plan.now result }

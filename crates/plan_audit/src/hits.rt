@@ -12,6 +12,7 @@ use crate::Hit;
 use crate::bands::first_later_band;
 use crate::zones::objects_hit;
 use integer_laws::difference;
+use seq_limits::MOST_OBJECTS;
 use seq_model::{Job, Place, RatPoint};
 
 fn apart(a: i128, b: i128) -> i128
@@ -69,7 +70,7 @@ fn first_after(
     scale: i128,
 ) -> Option<(u32, (u32, (u32, u32)))>
     requires within { e < length places.now }
-    requires few { length places.now ≤ 16 }
+    requires few { length places.now ≤ MOST_OBJECTS }
     requires roomy { All IsRoomy places.now }
     requires known { All (λ p. p.object < length job.now.objects) places.now }
     requires one { pos 1 ≤ℤ scale }
@@ -92,7 +93,7 @@ fn first_numbers(
 ) -> Option<(u32, (u32, (u32, (u32, u32))))>
     requires one { pos 1 ≤ℤ scale }
     requires scale { unsigned_abs scale < 2 ^ 62 }
-    requires few { length places.now ≤ 16 }
+    requires few { length places.now ≤ MOST_OBJECTS }
     requires roomy { All IsRoomy places.now }
     requires known { All (λ p. p.object < length job.now.objects) places.now }
     ensures { IsFirst (HitsAt (scene_of_job job.now) scale places.now)
@@ -110,7 +111,7 @@ fn first_numbers(
 pub(crate) fn first_hit(job: &Job, places: &[Place], scale: i128) -> Option<Hit>
     requires one { pos 1 ≤ℤ scale }
     requires scale { unsigned_abs scale < 2 ^ 62 }
-    requires few { length places.now ≤ 16 }
+    requires few { length places.now ≤ MOST_OBJECTS }
     requires roomy { All IsRoomy places.now }
     requires known { All (λ p. p.object < length job.now.objects) places.now }
     ensures { FirstHit (scene_of_job job.now) scale places.now result }

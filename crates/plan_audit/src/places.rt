@@ -7,6 +7,7 @@ ghost use Rattle.seq_model.specs.Bounds.{IsNearSpot};
 ghost use Rattle.seq_model.specs.Jobs.{object_at, scene_of_job};
 
 use integer_laws::{product, sum};
+use seq_limits::MOST_OBJECTS;
 use seq_model::{Job, Place, Region, Spot, region};
 
 // Whether the object has a place below this number.
@@ -31,7 +32,7 @@ fn is_stray(places: &[Place], k: usize, count: usize) -> bool
 }
 
 pub(crate) fn first_stray(job: &Job, places: &[Place]) -> Option<u32>
-    requires few { length places.now ≤ 16 }
+    requires few { length places.now ≤ MOST_OBJECTS }
     ensures { FirstStray (scene_of_job job.now) places.now result }
 {
     for k in 0..places.len() {
@@ -169,7 +170,7 @@ pub(crate) fn first_off(job: &Job, extent: u32, places: &[Place], scale: i128) -
     requires to_grid { extent ≤ job.now.printer.grid }
     requires one { pos 1 ≤ℤ scale }
     requires scale { unsigned_abs scale < 2 ^ 62 }
-    requires few { length places.now ≤ 16 }
+    requires few { length places.now ≤ MOST_OBJECTS }
     requires roomy { All IsRoomy places.now }
     requires known { All (λ p. p.object < length job.now.objects) places.now }
     ensures { FirstOff (scene_of_job job.now) extent scale places.now result }

@@ -1,6 +1,7 @@
 -- What a look at a point of a path finds: the orders that hold there.
 --
 --   OnPath path a b              a before b is on the path
+--   is_before path a b           the test whether it is
 --   IsLooked job e path at a b   it is on the path, or it is forced at the point and the pair is unordered on the path
 --   AreLooked job e path at orders   each of these orders is
 --   pair_node a b                the node that splits by the order of a and b, the lesser number first
@@ -10,7 +11,7 @@
 --   AreForced job e path at forced   nothing collides in an order of the path, and each pair that is unordered on it and collides is
 --                                among these orders, the other way
 --   Causes n orders Clash        of two different objects below n that clash, the later one stands before the earlier in the orders
-use Rattle.std.specs.Prelude.{◌≢◌, ℕ, ◌<◌, min, max, List, length, Contains, ◌⊎◌}
+use Rattle.std.specs.Prelude.{◌≢◌, ℕ, ◌<◌, eqb, min, max, Bool, false, ◌&&◌, ◌||◌, List, [], ◌∷◌, length, Contains, ◌⊎◌}
 use Rattle.seq_model.specs.Splits.{Values, CollidesAt, IsForced, IsUnordered, Earned}
 use Rattle.seq_model.specs.Trees.{IsSoundNode}
 use Rattle.seq_model.specs.declared.job.Job.{Job}
@@ -21,6 +22,11 @@ use Rattle.seq_model.specs.declared.tree.Node.TheVariants as Nodes
 
 abbrev pub OnPath : List Choice → ℕ → ℕ → Type 0
 OnPath path a b = Contains path (Choices.Before a b)
+
+abbrev pub is_before : List Choice → ℕ → ℕ → Bool
+is_before [] i j = false
+is_before (Choices.Before a b ∷ path) i j = (eqb a i && eqb b j) || is_before path i j
+is_before (Choices.Side d dir ∷ path) i j = is_before path i j
 
 abbrev pub IsLooked : Job → ℕ → List Choice → Values → ℕ → ℕ → Type 0
 IsLooked job e path at a b = OnPath path a b ⊎ (IsForced job e at a b × IsUnordered path a b)

@@ -4,11 +4,11 @@ use Rattle.std.specs.Int.{IsGcd, ◌∣◌}
 use Rattle.std.proofs.Math.Nat.{eq-one_of_dvd-one}
 use Rattle.std.proofs.lemmas.Nat.Gcd.{same_from_IsGcd, dvd_refl, dvd_trans}
 use Rattle.std.proofs.lemmas.List.Elements.{All-nil, All-cons, All-head, All-tail}
-use Rattle.integer_laws.specs.Divisors.{IsGcdOf}
+use Rattle.integer_laws.specs.Divisors.{IsGcdOf, gcd_of}
 use Rattle.integer_laws.specs.Laws.Divisors.{gcd_is}
 use Rattle.seq_model.specs.declared.plan.Place.{Place}
 use Rattle.plan_text.specs.PlanText.{DividesPlace}
-use Rattle.plan_text.specs.Reading.{gcd_of, divisor_with, divisor_of}
+use Rattle.plan_text.specs.Reading.{divisor_with, divisor_of}
 
 pub gcd_of_size : (a b g : ℤ) → IsGcdOf a b g → unsigned_abs g ≡ gcd_of (unsigned_abs a) (unsigned_abs b)
 gcd_of_size a b g is = same_from_IsGcd (unsigned_abs a) (unsigned_abs b) (unsigned_abs g) _ is.is (gcd_is (unsigned_abs a) (unsigned_abs b)).1

@@ -27,6 +27,7 @@ use Rattle.seq_model.specs.declared.plan.Plan.{Plan}
 use Rattle.plan_text.specs.declared.file.State.{State}
 use Rattle.plan_text.specs.declared.file.State.TheVariants.{Found, Least, OpenBudget, OpenWide, NoPlan, UndecidedBudget, UndecidedWide}
 use Rattle.plan_text.specs.declared.file.PlanFile.{PlanFile}
+use Rattle.seq_limits.specs.declared.TheConstants.{MOST_GRID, MOST_OBJECTS}
 
 abbrev pub state_line : State → List ℕ
 state_line Found = codes "state found\n"
@@ -91,7 +92,7 @@ pub record IsPlaced (f : PlanFile) : Type 0 where
   pub extent_high : f.extent ≤ f.grid
   pub scale_low : pos 1 ≤ℤ f.plan.scale
   pub scale_high : f.plan.scale <ℤ pos (2 ^ 62)
-  pub few : length f.plan.places ≤ 16
+  pub few : length f.plan.places ≤ MOST_OBJECTS
   pub places : All IsPlace f.plan.places
   pub reduced : HasNoDivisor f.plan
 
@@ -103,7 +104,7 @@ pub record IsBare (f : PlanFile) : Type 0 where
 
 pub record IsPlanFile (f : PlanFile) : Type 0 where
   pub grid_low : 1 ≤ f.grid
-  pub grid_high : f.grid ≤ 1_000
+  pub grid_high : f.grid ≤ MOST_GRID
   pub placed : has_places f.state ≡ true → IsPlaced f
   pub bare : has_places f.state ≡ false → IsBare f
 

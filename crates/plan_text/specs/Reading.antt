@@ -10,7 +10,7 @@
 --   plan_answer bytes             == the answer: the file and the place where its lines end, or the refusal
 use Rattle.std.specs.Prelude.{ℕ, pos, ◌+◌, ◌-◌, zero, suc, unsigned_abs, ◌==◌, List, [], ◌∷◌, ◌++◌, length, ◌||◌, if◌then◌else◌, Result, Ok, Err, codes}
 use Rattle.std.specs.Option.{ok_or}
-use Rattle.integer_laws.specs.Laws.Divisors.{gcd_is}
+use Rattle.integer_laws.specs.Divisors.{gcd_of}
 use Rattle.text_lines.specs.Results.{◌>>=◌}
 use Rattle.text_lines.specs.Reading.{literal_at, has_line_end}
 use Rattle.text_lines.specs.Lines.{number_line_at}
@@ -23,6 +23,7 @@ use Rattle.plan_text.specs.declared.reading.PlanRead.{PlanRead}
 use Rattle.plan_text.specs.declared.reading.PlanRead.TheVariants as refused
 use Rattle.plan_text.specs.PlanText.{has_places, is_block_due, begins_place}
 use Rattle.plan_text.specs.Lines.{state_line_at, place_at}
+use Rattle.seq_limits.specs.declared.TheConstants.{MOST_GRID, MOST_OBJECTS}
 
 abbrev pub refusal : ℕ → What → List ℕ → PlanRead
 refusal number what bytes = if has_line_end bytes then refused.Line number what else refused.Missing
@@ -31,11 +32,8 @@ unfoldable pub head_at : List ℕ → Result (State × ℕ × List ℕ) PlanRead
 head_at bytes = do
   a ← ok_or (literal_at (codes "seqplan 1\n") bytes) (refusal 1 what.Header bytes)
   state ← ok_or (state_line_at a) (refusal 2 what.State a)
-  grid ← ok_or (number_line_at (codes "grid ") 1_000 state.1) (refusal 3 what.Grid state.1)
+  grid ← ok_or (number_line_at (codes "grid ") MOST_GRID state.1) (refusal 3 what.Grid state.1)
   Ok (state.0, grid.0, grid.1)
-
-abbrev pub gcd_of : ℕ → ℕ → ℕ
-gcd_of a b = (gcd_is a b).0
 
 abbrev pub divisor_with : ℕ → Place → ℕ
 divisor_with d p = gcd_of (gcd_of d (unsigned_abs p.x)) (unsigned_abs p.y)
@@ -57,7 +55,7 @@ unfoldable pub body_at : State → ℕ → List ℕ → Result (PlanFile × List
 body_at state grid bytes = do
   extent ← ok_or (number_line_at (codes "extent ") grid bytes) (refusal 4 what.Extent bytes)
   scale ← ok_or (number_line_at (codes "scale ") 4_611_686_018_427_387_903 extent.1) (refusal 5 what.Scale extent.1)
-  places ← places_from 16 [] scale.1
+  places ← places_from MOST_OBJECTS [] scale.1
   if divisor_of scale.0 places.0 == 1
       then Ok (record { state = state; grid = grid; extent = extent.0; plan = record { scale = pos scale.0; places = places.0 } }, places.1)
       else Err (refused.Line 5 what.Scale)

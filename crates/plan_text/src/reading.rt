@@ -11,6 +11,7 @@ ghost use Rattle.plan_text.specs.Reading.{refusal, bare, head_at, divisor_with, 
 use crate::lines::{place_line, state_line};
 use crate::{PlanFile, State};
 use owned_lists::Items;
+use seq_limits::{MOST_GRID, MOST_OBJECTS};
 use seq_model::{Place, Plan, What};
 use seq_num::gcd;
 use std::alloc::Global;
@@ -89,7 +90,7 @@ fn head(bytes: &[u8]) -> Result<(State, u32, &[u8]), PlanRead>
 {
     let rest = header(bytes)?;
     let (state, rest) = state(rest)?;
-    let (grid, rest) = due(rest, b"grid ", 1_000, 3, What::Grid)?;
+    let (grid, rest) = due(rest, b"grid ", u64::from(MOST_GRID), 3, What::Grid)?;
     Ok((state, grid as u32, rest))
 }
 
@@ -103,14 +104,14 @@ fn begins_place(bytes: &[u8]) -> bool
 fn places(alloc: Global, bytes: &[u8]) -> Result<(Vec<Place>, &[u8]), PlanRead>
     ensures answer { result ≢ Err PlanRead.NoMemory
         → result_map_both (λ x. (x.0.items, x.1.now)) (λ e. e) result
-        ≡ places_from 16 [] bytes.now }
+        ≡ places_from MOST_OBJECTS [] bytes.now }
     ensures small { IfOk result (λ x. All IsPlace x.0.items) }
 {
     let mut found = Vec::new(alloc);
     let mut rest = bytes;
     while begins_place(rest) {
         let number = found.len() as u64 + 6;
-        if found.len() == 16 {
+        if found.len() == MOST_OBJECTS {
             return Err(refusal(rest, number, What::Place));
         }
         let Some((place, after)) = place_line(rest) else {

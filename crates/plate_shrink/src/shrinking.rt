@@ -7,6 +7,7 @@ use crate::fitting::Fitted;
 use crate::trying::{Attempt, Tried, try_extent};
 use crate::{Cause, Outcome};
 use node_looks::{Looker, Looks};
+use seq_limits::MOST_NODES;
 use seq_model::{Job, Plan, Tree};
 use seq_num::NoMemory;
 use std::alloc::Global;
@@ -80,7 +81,7 @@ fn halved<L: Looks>(
     whole: Fitted,
 ) -> Result<Outcome, NoMemory>
     requires some { 1 ≤ budget }
-    requires limit { budget ≤ 1_000_000 }
+    requires limit { budget ≤ MOST_NODES }
     requires made { L.IsFor looks.old job.now }
     requires whole { IsFitted job.now job.now.printer.grid whole }
     ensures stays { L.IsFor looks.new job.now }
@@ -114,7 +115,7 @@ fn shrunk<L: Looks>(
     looks: &mut L,
 ) -> Result<Outcome, NoMemory>
     requires some { 1 ≤ budget }
-    requires limit { budget ≤ 1_000_000 }
+    requires limit { budget ≤ MOST_NODES }
     requires made { L.IsFor looks.old job.now }
     ensures stays { L.IsFor looks.new job.now }
     ensures is { IfOk result (IsOutcome job.now budget) }
@@ -134,7 +135,7 @@ pub fn least_by<L: Looks>(
     looks: &mut L,
 ) -> Result<Outcome, NoMemory>
     requires some { 1 ≤ budget }
-    requires limit { budget ≤ 1_000_000 }
+    requires limit { budget ≤ MOST_NODES }
     requires made { L.IsFor looks.old job.now }
     ensures stays { L.IsFor looks.new job.now }
     ensures is { IfOk result (IsOutcome job.now budget) }
@@ -149,7 +150,7 @@ pub fn least_by<L: Looks>(
 /// The least extent at which the job has a plan. The budget holds for each extent tried.
 pub fn least(alloc: Global, job: &Job, budget: u64) -> Result<Outcome, NoMemory>
     requires some { 1 ≤ budget }
-    requires limit { budget ≤ 1_000_000 }
+    requires limit { budget ≤ MOST_NODES }
     ensures is { IfOk result (IsOutcome job.now budget) }
     ensures unspent { (full : ℕ) → Full job.now full → full ≤ budget
         → IfOk result (λ outcome. IsBudgetOutcome outcome → ⊥) }

@@ -7,6 +7,7 @@ use crate::Cause;
 use crate::fitting::{Fitted, least_fitted};
 use node_looks::Looks;
 use refinement_loop::{Decision, decide_by};
+use seq_limits::MOST_NODES;
 use seq_model::{Job, Tree};
 use seq_num::NoMemory;
 use std::alloc::Global;
@@ -34,7 +35,7 @@ pub fn try_extent<L: Looks>(
     requires low { 1 ≤ extent }
     requires high { extent ≤ job.now.printer.grid }
     requires some { 1 ≤ budget }
-    requires limit { budget ≤ 1_000_000 }
+    requires limit { budget ≤ MOST_NODES }
     requires made { L.IsFor looks.old job.now }
     ensures stays { L.IsFor looks.new job.now }
     ensures is { IfOk result (IsAttempt job.now extent budget) }

@@ -9,13 +9,14 @@ ghost use Rattle.seq_model.specs.Scenes.{Meets};
 ghost use Rattle.seq_model.specs.declared.job.Zone.{Zone};
 ghost use Rattle.seq_model.specs.declared.printer.Part.{Part};
 
+use seq_limits::FARTHEST;
 use seq_model::{Part, Zone};
 use seq_num::{ceil_div, floor_div};
 
 // The bands of `step` up to a height, the one that it lies in left out.
 fn first_band(from: i64, step: i64) -> u32
     requires low { pos 0 ≤ℤ from }
-    requires high { from ≤ℤ pos 10_000_000 }
+    requires high { from ≤ℤ pos FARTHEST }
     requires step { pos 10 ≤ℤ step }
     ensures value { result ≡ first_band from step }
     ensures rounds { IsFloor from step (pos result) }
@@ -27,7 +28,7 @@ fn first_band(from: i64, step: i64) -> u32
 // The bands of `step` up to a height, the one that it lies in counted.
 fn last_band(to: i64, step: i64) -> u32
     requires low { pos 0 ≤ℤ to }
-    requires high { to ≤ℤ pos 10_000_000 }
+    requires high { to ≤ℤ pos FARTHEST }
     requires step { pos 10 ≤ℤ step }
     ensures value { result ≡ last_band to step }
     ensures rounds { IsCeil to step (pos result) }
@@ -40,8 +41,8 @@ fn last_band(to: i64, step: i64) -> u32
 /// All three are in µm.
 pub fn bands_of(from: i64, to: Option<i64>, step: i64) -> (u32, Option<u32>)
     requires low { pos 0 ≤ℤ from }
-    requires high { from ≤ℤ pos 10_000_000 }
-    requires to { ForSome to (λ t. (from ≤ℤ t) × (t ≤ℤ pos 10_000_000)) }
+    requires high { from ≤ℤ pos FARTHEST }
+    requires to { ForSome to (λ t. (from ≤ℤ t) × (t ≤ℤ pos FARTHEST)) }
     requires step { pos 10 ≤ℤ step }
     ensures lo { result.0 ≡ first_band from step }
     ensures hi { result.1 ≡ option_map (λ t. last_band t step) to }

@@ -18,6 +18,7 @@
 use Rattle.std.specs.Prelude.{ℕ, ℤ, pos, neg_ℤ, Bool, List, [], ◌∷◌, Option, Some, None}
 use Rattle.printer_text.specs.declared.Key.{Key}
 use Rattle.printer_text.specs.declared.Key.TheVariants as key
+use Rattle.seq_limits.specs.declared.TheConstants.{FARTHEST, LEAST_GRAIN, LEAST_STEP, MOST_GRAIN, MOST_GRID, MOST_MARGIN, MOST_PLATE, MOST_REACH, MOST_STEP}
 
 pub data Bound : Type 0 where
   um : ℤ → Bound
@@ -45,27 +46,27 @@ pub data Row : Type 0 where
 abbrev pub top_keys : List Row
 top_keys =
     required key.Format (integer (pos 1) (pos 1))
-    ∷ required key.Grain (length (um (pos 10)) (um (pos 10_000)) anywhere)
-    ∷ required key.Plate (two_lengths (grains (pos 1)) (grains (pos 20_000)))
-    ∷ required key.Step (length (um (pos 10)) (um (pos 100_000)) anywhere)
-    ∷ required key.Margin (length (grains (pos 1)) (grains (pos 1_000)) on_grain)
-    ∷ required key.Grid (integer (pos 1) (pos 1_000))
+    ∷ required key.Grain (length (um LEAST_GRAIN) (um MOST_GRAIN) anywhere)
+    ∷ required key.Plate (two_lengths (grains (pos 1)) (grains MOST_PLATE))
+    ∷ required key.Step (length (um LEAST_STEP) (um MOST_STEP) anywhere)
+    ∷ required key.Margin (length (grains (pos 1)) (grains MOST_MARGIN) on_grain)
+    ∷ required key.Grid (integer (pos 1) (pos MOST_GRID))
     ∷ optional key.Part (tables 12)
     ∷ []
 
 abbrev pub part_keys : List Row
 part_keys =
     required key.Name (name 1 40)
-    ∷ required key.From (length (um (pos 0)) (um (pos 10_000_000)) anywhere)
-    ∷ optional key.To (length value_of_from (um (pos 10_000_000)) anywhere)
+    ∷ required key.From (length (um (pos 0)) (um (pos FARTHEST)) anywhere)
+    ∷ optional key.To (length value_of_from (um (pos FARTHEST)) anywhere)
     ∷ optional key.Bar x_or_y
     ∷ []
 
 abbrev pub outline_keys : Option Bool → List Row
 outline_keys None =
-    required key.Corners (corners 1 32 (grains (neg_ℤ (pos 100_000))) (grains (pos 100_000)))
+    required key.Corners (corners 1 32 (grains (neg_ℤ (pos MOST_REACH))) (grains (pos MOST_REACH)))
     ∷ []
 outline_keys (Some along_x) =
-    required key.Low (length (grains (neg_ℤ (pos 100_000))) (grains (pos 100_000)) on_grain)
-    ∷ required key.High (length value_of_low (grains (pos 100_000)) on_grain)
+    required key.Low (length (grains (neg_ℤ (pos MOST_REACH))) (grains (pos MOST_REACH)) on_grain)
+    ∷ required key.High (length value_of_low (grains (pos MOST_REACH)) on_grain)
     ∷ []

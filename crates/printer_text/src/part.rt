@@ -18,6 +18,7 @@ use crate::values::{Bad, Cause};
 use crate::{Key, Prn};
 use owned_lists::{Items, Text};
 use printer_envelopes::{bands_of, bar_corners};
+use seq_limits::{FARTHEST, MOST_REACH};
 use seq_model::{Part, Spot};
 use std::alloc::Global;
 use toml::Table;
@@ -63,16 +64,16 @@ fn read_first(table: &Table) -> Result<(&str, Heights), Bad>
         ≡ Ok (said_first sizes first.0.now first.1)) }
     ensures name { IfOk result (λ first. IsPartName first.0.now) }
     ensures from_low { IfOk result (λ first. pos 0 ≤ℤ first.1.from) }
-    ensures from_high { IfOk result (λ first. first.1.from ≤ℤ pos 10_000_000) }
+    ensures from_high { IfOk result (λ first. first.1.from ≤ℤ pos FARTHEST) }
     ensures to { IfOk result
-        (λ first. IfSome first.1.to (λ to. (first.1.from ≤ℤ to) × (to ≤ℤ pos 10_000_000))) }
+        (λ first. IfSome first.1.to (λ to. (first.1.from ≤ℤ to) × (to ≤ℤ pos FARTHEST))) }
     ensures err { IfErr result
         (λ bad. (sizes : Sizes)
         → reading part_keys (table_view table.now) (about sizes) ≡ Err bad) }
 {
     let name = name_at(table, Key::Name, 1, 40)?;
-    let from = length_at(table, Key::From, 0, 10_000_000)?;
-    let to = length_if(table, Key::To, from, 10_000_000)?;
+    let from = length_at(table, Key::From, 0, i64::from(FARTHEST))?;
+    let to = length_if(table, Key::To, from, i64::from(FARTHEST))?;
     let bar = axis_if(table, Key::Bar)?;
     Ok((name, Heights { from, to, bar }))
 }
@@ -92,11 +93,17 @@ fn bar_outline(
     ensures err { IfErr result
         (StopsKey (outline_in sizes.now (Some along_x) (table_view table.now))) }
 {
-    let low = match grains_at(table, Key::Low, sizes.grain, -100_000, 100_000) {
+    let low = match grains_at(
+        table,
+        Key::Low,
+        sizes.grain,
+        -i64::from(MOST_REACH),
+        i64::from(MOST_REACH),
+    ) {
         Ok(low) => low,
         Err(bad) => return Err(Unread::Bad(bad)),
     };
-    let high = match grains_at(table, Key::High, sizes.grain, low, 100_000) {
+    let high = match grains_at(table, Key::High, sizes.grain, low, i64::from(MOST_REACH)) {
         Ok(high) => high,
         Err(bad) => return Err(Unread::Bad(bad)),
     };
@@ -124,7 +131,14 @@ fn outline(
     ensures err { IfErr result (StopsKey (outline_in sizes.now bar (table_view table.now))) }
 {
     match bar {
-        None => corners_at(alloc, table, Key::Corners, sizes.grain, -100_000, 100_000),
+        None => corners_at(
+            alloc,
+            table,
+            Key::Corners,
+            sizes.grain,
+            -i64::from(MOST_REACH),
+            i64::from(MOST_REACH),
+        ),
         Some(along_x) => bar_outline(alloc, table, sizes, along_x),
     }
 }

@@ -9,6 +9,9 @@ ghost use Rattle.printer_text.specs.Tables.{reading, nothing, said_top};
 use crate::Key;
 use crate::keys::{grains_at, integer_at, length_at, pair_at, tables_if};
 use crate::values::Bad;
+use seq_limits::{
+    LEAST_GRAIN, LEAST_STEP, MOST_GRAIN, MOST_GRID, MOST_MARGIN, MOST_PLATE, MOST_STEP,
+};
 use toml::{Table, Value};
 
 /// The sizes of a printer: the grain and the band height in µm, the plate and the margin in grains, and the grid.
@@ -32,11 +35,11 @@ pub fn read_top(table: &Table) -> Result<(Sizes, Option<&[Value]>), Bad>
     ensures err { IfErr result (λ bad. reading top_keys (table_view table.now) nothing ≡ Err bad) }
 {
     let _format = integer_at(table, Key::Format, 1, 1)?;
-    let grain = length_at(table, Key::Grain, 10, 10_000)?;
-    let plate = pair_at(table, Key::Plate, grain, 1, 20_000)?;
-    let step = length_at(table, Key::Step, 10, 100_000)?;
-    let margin = grains_at(table, Key::Margin, grain, 1, 1_000)?;
-    let grid = integer_at(table, Key::Grid, 1, 1_000)?;
+    let grain = length_at(table, Key::Grain, LEAST_GRAIN, MOST_GRAIN)?;
+    let plate = pair_at(table, Key::Plate, grain, 1, MOST_PLATE)?;
+    let step = length_at(table, Key::Step, LEAST_STEP, MOST_STEP)?;
+    let margin = grains_at(table, Key::Margin, grain, 1, MOST_MARGIN)?;
+    let grid = integer_at(table, Key::Grid, 1, i64::from(MOST_GRID))?;
     let listed = tables_if(table, Key::Part, 12)?;
     let sizes = Sizes {
         grain,

@@ -26,10 +26,11 @@ use Rattle.seq_model.specs.declared.tree.Choice.{Choice}
 use Rattle.seq_model.specs.declared.tree.Node.TheVariants as Nodes
 use Rattle.seq_model.specs.declared.tree.Tree.{Tree}
 use Rattle.seq_model.specs.declared.tree.WideNote.{WideNote}
+use Rattle.seq_limits.specs.declared.TheConstants.{MOST_NODES}
 
 pub record IsPrintable (tree : Tree) : Type 0 where
   pub spelt : All IsSpelt tree.nodes
-  pub whole : IsWholeWithin 1_000_000 tree
+  pub whole : IsWholeWithin MOST_NODES tree
   pub takes : All TakesRows tree.nodes
 
 abbrev pub HasWideWalk : Job → ℕ → List Choice → Type 0

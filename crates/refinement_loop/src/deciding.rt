@@ -7,6 +7,7 @@ use crate::wide_nodes::{WideNode, first_of};
 use node_looks::{Look, Looker, Looks};
 use refutation_tree::Growing;
 use search_agenda::Agenda;
+use seq_limits::MOST_NODES;
 use seq_model::{Job, Plan, Tree, WideNote};
 use seq_num::NoMemory;
 use std::alloc::Global;
@@ -35,7 +36,7 @@ fn search<L: Looks>(
     requires low { 1 ≤ extent }
     requires high { extent ≤ job.now.printer.grid }
     requires some { 1 ≤ budget }
-    requires limit { budget ≤ 1_000_000 }
+    requires limit { budget ≤ MOST_NODES }
     requires made { L.IsFor looks.old job.now }
     ensures stays { L.IsFor looks.new job.now }
     ensures is { IfOk result (IsDecision job.now extent budget) }
@@ -86,7 +87,7 @@ pub fn decide_by<L: Looks>(
     requires low { 1 ≤ extent }
     requires high { extent ≤ job.now.printer.grid }
     requires some { 1 ≤ budget }
-    requires limit { budget ≤ 1_000_000 }
+    requires limit { budget ≤ MOST_NODES }
     requires made { L.IsFor looks.old job.now }
     ensures stays { L.IsFor looks.new job.now }
     ensures is { IfOk result (IsDecision job.now extent budget) }
@@ -104,7 +105,7 @@ pub fn decide(alloc: Global, job: &Job, extent: u32, budget: u64) -> Result<Deci
     requires low { 1 ≤ extent }
     requires high { extent ≤ job.now.printer.grid }
     requires some { 1 ≤ budget }
-    requires limit { budget ≤ 1_000_000 }
+    requires limit { budget ≤ MOST_NODES }
     ensures is { IfOk result (IsDecision job.now extent budget) }
     ensures zero { HasZeroPlan job.now extent → IfOk result (IsZeroDecision job.now extent) }
     ensures unspent { (full : ℕ) → Full job.now full → full ≤ budget

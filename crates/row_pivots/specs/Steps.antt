@@ -9,7 +9,7 @@
 --   next_of count t                 the next table, or None where the walk stops
 --   steps_left count k t            how many steps the walk still takes from the table, at most k
 use Rattle.std.proofs.Common.{◌≡◌, ℕ, zero, suc, ◌+◌, List, [], ◌∷◌, length, map, get_or, set, ℤ, pos, ◌*ℤ◌, Option, Some, None, unsigned_abs, int_div}
-use Rattle.integer_laws.specs.Laws.Divisors.{gcd_is}
+use Rattle.integer_laws.specs.Divisors.{gcd_of}
 use Rattle.integer_laws.specs.Members.{In}
 use Rattle.row_laws.specs.Computed.{leaving, entering, line_of}
 use Rattle.row_pivots.specs.Tables.{rising, sorted_lines, place_of}
@@ -36,7 +36,7 @@ table_of vars rows basis f = record { d = f.d; basis = basis; lines = f.lines }
 
 unfoldable pub line_content : ℕ → List ℤ → ℕ
 line_content g [] = g
-line_content g (x ∷ xs) = line_content (gcd_is g (unsigned_abs x)).0 xs
+line_content g (x ∷ xs) = line_content (gcd_of g (unsigned_abs x)) xs
 
 unfoldable pub content_of : ℕ → List (List ℤ) → ℕ
 content_of g [] = g

@@ -19,6 +19,7 @@ use Rattle.run_files.specs.declared.words.Request.{Request}
 use Rattle.run_files.specs.declared.words.Request.TheVariants.{OfFiles, Trial}
 use Rattle.run_files.specs.declared.words.Task.{Task}
 use Rattle.run_files.specs.declared.words.Task.TheVariants as Tasks
+use Rattle.seq_limits.specs.declared.TheConstants.{MOST_NODES, MOST_OBJECTS}
 
 abbrev pub is_strict : Task → Bool
 is_strict (Tasks.Arrange strict budget) = strict
@@ -75,19 +76,19 @@ IsManyFor Tasks.Check meshes = Unit {0}
 IsManyFor Tasks.Slices meshes = meshes ≡ 1
 
 abbrev pub IsBudgetFor : Task → Type 0
-IsBudgetFor (Tasks.Arrange strict budget) = (1 ≤ budget) × (budget ≤ 1_000_000)
-IsBudgetFor (Tasks.Least strict budget) = (1 ≤ budget) × (budget ≤ 1_000_000)
+IsBudgetFor (Tasks.Arrange strict budget) = (1 ≤ budget) × (budget ≤ MOST_NODES)
+IsBudgetFor (Tasks.Least strict budget) = (1 ≤ budget) × (budget ≤ MOST_NODES)
 IsBudgetFor Tasks.Audit = Unit {0}
 IsBudgetFor Tasks.Check = Unit {0}
 IsBudgetFor Tasks.Slices = Unit {0}
 
 pub record IsRequest (a : Asked) : Type 0 where
   pub some : 1 ≤ length a.meshes
-  pub few : length a.meshes ≤ 16
+  pub few : length a.meshes ≤ MOST_OBJECTS
   pub plan : NamesPlan a.task a.plan
   pub many : IsManyFor a.task (length a.meshes)
   pub budget : IsBudgetFor a.task
 
 abbrev pub IsSoundRequest : Request → Type 0
 IsSoundRequest (OfFiles a) = IsRequest a
-IsSoundRequest (Trial objects seed) = (1 ≤ objects) × (objects ≤ 16) × (seed < 2 ^ 32)
+IsSoundRequest (Trial objects seed) = (1 ≤ objects) × (objects ≤ MOST_OBJECTS) × (seed < 2 ^ 32)

@@ -5,6 +5,7 @@ use cert_text::CertRead;
 use plan_text::PlanRead;
 use printer_text::Prn;
 use seq_io::ReadAll;
+use seq_num::NoMemory;
 use std::alloc::AllocError;
 use stl_text::Stl;
 
@@ -70,6 +71,16 @@ pub fn stop_at(file: NamedFile, why: Unfit) -> Stop
     }
 }
 
+impl From<NoMemory> for Stop {
+    ghost use Rattle.run_files.specs.declared.stop.Stop.TheVariants.{Memory};
+
+    ghost from_gives = { λ _ e. e ≡ Memory };
+
+    fn from(_: NoMemory) -> Self {
+        Stop::Memory
+    }
+}
+
 impl From<AllocError> for Unfit {
     ghost use Rattle.run_files.specs.declared.stop.Unfit.TheVariants.{NoMemory};
 
@@ -80,12 +91,12 @@ impl From<AllocError> for Unfit {
     }
 }
 
-impl From<seq_num::NoMemory> for Unfit {
+impl From<NoMemory> for Unfit {
     ghost use Rattle.run_files.specs.declared.stop.Unfit.TheVariants.{NoMemory};
 
     ghost from_gives = { λ _ e. e ≡ NoMemory };
 
-    fn from(_: seq_num::NoMemory) -> Self {
+    fn from(_: NoMemory) -> Self {
         Unfit::NoMemory
     }
 }

@@ -11,9 +11,10 @@ use Rattle.seq_model.specs.declared.job.Job.{Job}
 use Rattle.seq_run.specs.Printed.{Prints}
 use Rattle.seq_run.specs.declared.status.Verdict.{Verdict}
 use Rattle.trial_job.specs.Trials.{IsTrial, summary_text, zone_count}
+use Rattle.seq_limits.specs.declared.TheConstants.{USUAL_NODES}
 
 abbrev pub trial_budget : ℕ
-trial_budget = 20_000
+trial_budget = USUAL_NODES
 
 abbrev pub made_inputs : Description → List NamedMesh → Inputs
 made_inputs d meshes = record { description = d; plan = None; meshes = meshes }

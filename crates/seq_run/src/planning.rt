@@ -15,6 +15,7 @@ use plan_audit::{Verdict as Audit, audit};
 use plate_shrink::{Outcome, least};
 use refinement_loop::{Decision, decide};
 use run_files::{GivenPlan, Task, the_job_of_files_is_one};
+use seq_limits::{MOST_NODES, MOST_OBJECTS, USUAL_NODES};
 use seq_model::Job;
 use seq_num::NoMemory;
 use slice_text::slices_text;
@@ -40,7 +41,7 @@ fn verdict_of_decision(decision: &Decision) -> Verdict
 
 // A plan of a job on the whole plate, a certificate that there is none, or why that is undecided.
 fn arrange(alloc: Global, strict: bool, budget: u64, job: &Job) -> Result<Printed, NoMemory>
-    requires { (1 ≤ budget) × (budget ≤ 1_000_000) }
+    requires { (1 ≤ budget) × (budget ≤ MOST_NODES) }
     ensures { (plan : Option GivenPlan)
         → IfOk result (λ p. PrintsFor (Task.Arrange strict budget) job.now plan p.verdict p.text) }
 {
@@ -68,7 +69,7 @@ fn verdict_of_outcome(outcome: &Outcome) -> Verdict
 // A plan of a job at the least extent, with a certificate for the one below; a plan, and why the one below is undecided; or what
 // is said of the whole plate.
 fn shrink(alloc: Global, strict: bool, budget: u64, job: &Job) -> Result<Printed, NoMemory>
-    requires { (1 ≤ budget) × (budget ≤ 1_000_000) }
+    requires { (1 ≤ budget) × (budget ≤ MOST_NODES) }
     ensures { (plan : Option GivenPlan)
         → IfOk result (λ p. PrintsFor (Task.Least strict budget) job.now plan p.verdict p.text) }
 {
@@ -151,12 +152,12 @@ fn check_plan(alloc: Global, job: &Job, plan: &GivenPlan) -> Result<Printed, NoM
 /// The summary of a trial, and then what `arrange` prints of its job.
 pub fn try_out(alloc: Global, objects: u32, seed: u64) -> Result<Printed, NoMemory>
     requires some { 1 ≤ objects }
-    requires few { objects ≤ 16 }
+    requires few { objects ≤ MOST_OBJECTS }
     requires seed { seed < 2 ^ 32 }
     ensures { IfOk result (λ p. PrintsTrial objects seed p.verdict p.text) }
 {
     let trial = trial_job(alloc, objects, seed)?;
-    let arranged = arrange(alloc, false, 20_000, &trial.job)?;
+    let arranged = arrange(alloc, false, USUAL_NODES, &trial.job)?;
     let mut text = summary_text(alloc, objects, seed, &trial)?;
     text.extend_from_slice(arranged.text.as_slice())?;
     Ok(Printed {

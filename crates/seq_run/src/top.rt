@@ -17,6 +17,7 @@ use crate::telling::{Answer, deliver, tell};
 use run_files::{Asked, Loaded, Request, Stop, Task, load, read_request};
 use run_lines::words_line;
 use seq_io::{Shelf, Sink, SinkFault, write_all};
+use seq_limits::MOST_OBJECTS;
 use seq_num::NoMemory;
 use seq_words::Words;
 use std::alloc::Global;
@@ -47,10 +48,7 @@ fn work<S: Shelf>(alloc: Global, asked: &Asked, shelf: &mut S) -> Result<Answer,
     ensures why { IfErr result (Explains asked.now (S.shows shelf.old) (S.shows shelf.new)) }
 {
     let loaded = load(alloc, asked, shelf)?;
-    match answer_of(alloc, asked.task, loaded) {
-        Ok(answer) => Ok(answer),
-        Err(NoMemory) => Err(Stop::Memory),
-    }
+    Ok(answer_of(alloc, asked.task, loaded)?)
 }
 
 // Writes the line of refused words, which takes no memory.
@@ -99,7 +97,7 @@ fn try_files<O: Sink, E: Sink>(
     err: &mut E,
 ) -> Status
     requires some { 1 ≤ objects }
-    requires few { objects ≤ 16 }
+    requires few { objects ≤ MOST_OBJECTS }
     requires seed { seed < 2 ^ 32 }
     ensures { TrialEnds objects seed (E.shows err.old) (E.shows err.new)
         (O.shows out.old) (O.shows out.new) result }

@@ -6,6 +6,7 @@ use crate::draws::Draws;
 use crate::tower::{draw_tower, put_tower};
 use owned_lists::{Items, Text};
 use seq_io::MemFile;
+use seq_limits::MOST_OBJECTS;
 use seq_num::NoMemory;
 use std::alloc::{AllocError, Global};
 use text_lines::put_number;
@@ -84,7 +85,7 @@ fn draw_files(alloc: Global, objects: u32, seed: u64) -> Result<Items<MemFile>, 
 /// The files of so many objects, made from a seed.
 pub fn trial_files(alloc: Global, objects: u32, seed: u64) -> Result<TrialFiles, NoMemory>
     requires some { 1 ≤ objects }
-    requires few { objects ≤ 16 }
+    requires few { objects ≤ MOST_OBJECTS }
     requires seed { seed < 2 ^ 32 }
     ensures { IfOk result (λ files. files ≡ trial_files objects seed) }
 {

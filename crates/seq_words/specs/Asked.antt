@@ -21,20 +21,21 @@ use Rattle.seq_words.specs.declared.usage.Name.TheVariants as Name
 use Rattle.seq_words.specs.declared.usage.TheConstants.{ARRANGE, CHECK, AUDIT, SLICES, TRIAL}
 use Rattle.seq_words.specs.Numbers.{number_in}
 use Rattle.seq_words.specs.Usages.{simple_command, rows_by, text_of, texts_of, is_given, label_of}
+use Rattle.seq_limits.specs.declared.TheConstants.{MOST_NODES, MOST_OBJECTS, USUAL_NODES}
 
 abbrev pub number_or : Opt → Option ℕ → Result ℕ Words
 number_or opt (Some n) = Ok n
 number_or opt None = Err (Words.BadNumber opt)
 
 abbrev pub budget_from : Option Text → Result ℕ Words
-budget_from (Some text) = number_or Opt.Budget (number_in 1 1_000_000 text)
-budget_from None = Ok 20_000
+budget_from (Some text) = number_or Opt.Budget (number_in 1 MOST_NODES text)
+budget_from None = Ok USUAL_NODES
 
 abbrev pub budget_in : List Row → Result ℕ Words
 budget_in rows = budget_from (first_of (label_of Name.Budget) rows)
 
 abbrev pub meshes_in : List Row → Result (List Text) Words
-meshes_in rows = if nat_le (length (texts_of Name.Stl rows)) 16 then Ok (texts_of Name.Stl rows) else Err Words.TooMany
+meshes_in rows = if nat_le (length (texts_of Name.Stl rows)) MOST_OBJECTS then Ok (texts_of Name.Stl rows) else Err Words.TooMany
 
 abbrev pub arrange_in : List Row → Result Command Words
 arrange_in rows = do
@@ -57,7 +58,7 @@ slices_in rows = Ok (Command.Slices (text_of Name.Printer rows) (text_of Name.St
 
 abbrev pub trial_in : List Row → Result Command Words
 trial_in rows = do
-  objects ← number_or Opt.K (number_in 1 16 (text_of Name.K rows))
+  objects ← number_or Opt.K (number_in 1 MOST_OBJECTS (text_of Name.K rows))
   seed ← number_or Opt.N (number_in 0 4_294_967_295 (text_of Name.N rows))
   Ok (Command.Trial objects seed)
 
@@ -99,8 +100,8 @@ abbrev pub IsDue : {A : Type 0} → Result A Words → Words → Type 0
 IsDue due refusal = (refusal ≡ Words.NoMemory) ⊎ (due ≡ Err refusal)
 
 abbrev pub IsWithinLimits : Command → Type 0
-IsWithinLimits (Command.Arrange least strict budget printer meshes) = (1 ≤ budget) × (budget ≤ 1_000_000) × (length meshes ≤ 16)
-IsWithinLimits (Command.Check printer plan meshes) = length meshes ≤ 16
-IsWithinLimits (Command.Audit printer plan meshes) = length meshes ≤ 16
+IsWithinLimits (Command.Arrange least strict budget printer meshes) = (1 ≤ budget) × (budget ≤ MOST_NODES) × (length meshes ≤ MOST_OBJECTS)
+IsWithinLimits (Command.Check printer plan meshes) = length meshes ≤ MOST_OBJECTS
+IsWithinLimits (Command.Audit printer plan meshes) = length meshes ≤ MOST_OBJECTS
 IsWithinLimits (Command.Slices printer mesh) = ⊤
-IsWithinLimits (Command.Trial objects seed) = (1 ≤ objects) × (objects ≤ 16) × (seed < 2 ^ 32)
+IsWithinLimits (Command.Trial objects seed) = (1 ≤ objects) × (objects ≤ MOST_OBJECTS) × (seed < 2 ^ 32)

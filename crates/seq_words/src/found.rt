@@ -9,6 +9,7 @@ use crate::usage::{Argument, Name, label, parser};
 use clap::error::ErrorKind;
 use clap::{ArgMatches, Command as Parser};
 use owned_lists::{Items, Text};
+use seq_limits::{MOST_NODES, MOST_OBJECTS, USUAL_NODES};
 use std::alloc::Global;
 
 /// What the command of this name, with these arguments, finds in the words.
@@ -92,11 +93,11 @@ pub(crate) fn is_on<'a>(matches: &ArgMatches<'a>, name: Name) -> bool
 /// The value of `--budget`, or the default.
 pub(crate) fn budget<'a>(matches: &ArgMatches<'a>) -> Result<u64, Words>
     ensures value { result ≡ budget_in (rows_of (found_of matches.now)) }
-    ensures limits { IfOk result (λ n. (1 ≤ n) × (n ≤ 1_000_000)) }
+    ensures limits { IfOk result (λ n. (1 ≤ n) × (n ≤ MOST_NODES)) }
 {
     match given(matches, Name::Budget) {
-        Some(text) => number_for(Opt::Budget, 1, 1_000_000, text),
-        None => Ok(20_000),
+        Some(text) => number_for(Opt::Budget, 1, MOST_NODES, text),
+        None => Ok(USUAL_NODES),
     }
 }
 
@@ -130,11 +131,11 @@ fn several<'a>(alloc: Global, matches: &ArgMatches<'a>, name: Name) -> Result<It
 /// The names of the meshes.
 pub(crate) fn meshes<'a>(alloc: Global, matches: &ArgMatches<'a>) -> Result<Items<Text>, Words>
     ensures ok { IfOk result (λ meshes. meshes_in (rows_of (found_of matches.now)) ≡ Ok meshes) }
-    ensures limits { IfOk result (λ meshes. length meshes ≤ 16) }
+    ensures limits { IfOk result (λ meshes. length meshes ≤ MOST_OBJECTS) }
     ensures err { IfErr result (IsDue (meshes_in (rows_of (found_of matches.now)))) }
 {
     let meshes = several(alloc, matches, Name::Stl)?;
-    if meshes.len() > 16 {
+    if meshes.len() > MOST_OBJECTS {
         return Err(Words::TooMany);
     }
     Ok(meshes)

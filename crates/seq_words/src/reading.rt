@@ -6,6 +6,7 @@ use crate::command::{Command, Opt, Words};
 use crate::found::{budget, found, is_on, meshes, text, word};
 use crate::numbers::number_for;
 use crate::usage::{ARRANGE, AUDIT, CHECK, Name, SLICES, TRIAL};
+use seq_limits::MOST_OBJECTS;
 use std::alloc::Global;
 
 /// What the words ask for. They don't hold the program's name.
@@ -108,7 +109,7 @@ fn read_trial(alloc: Global, words: &[String]) -> Result<Command, Words>
     ensures err { IfErr result (IsDue (asked_trial (texts words.now))) }
 {
     let matches = found(alloc, "trial", TRIAL, words)?;
-    let objects = number_for(Opt::K, 1, 16, word(&matches, Name::K))?;
+    let objects = number_for(Opt::K, 1, MOST_OBJECTS as u64, word(&matches, Name::K))?;
     let seed = number_for(Opt::N, 0, 4_294_967_295, word(&matches, Name::N))?;
     Ok(Command::Trial {
         objects: objects as u32,

@@ -32,6 +32,7 @@ use Rattle.stl_text.specs.declared.parts.Part.{Part}
 use Rattle.stl_text.specs.declared.parts.Part.TheVariants as Parts
 use Rattle.stl_text.specs.Words.{IsNext, IsRest, IsSpelled, letters}
 use Rattle.stl_text.specs.Reading.{Reading, gives, refuses, ◌>>=◌, choice}
+use Rattle.seq_limits.specs.declared.TheConstants.{MOST_FACETS}
 
 -- how a keyword is told to a person; those that are one word are spelled so in a file
 abbrev pub text_of : Keyword → List ℕ
@@ -127,7 +128,7 @@ closing bytes at = do
   choice (word.from < word.to) (opening bytes line >>= λ to. gives (Some to)) (gives None)
 
 abbrev pub next_facet : List ℕ → ℕ → ℕ → Reading Part
-next_facet bytes at count = choice (count < 200_000) (facet bytes at >>= λ f. gives (Parts.Facet f.0 f.1)) (refuses TooManyFacets)
+next_facet bytes at count = choice (count < MOST_FACETS) (facet bytes at >>= λ f. gives (Parts.Facet f.0 f.1)) (refuses TooManyFacets)
 
 abbrev pub ending : List ℕ → ℕ → Reading Part
 ending bytes at = closing bytes at >>= λ to. gives (Parts.Ending to)

@@ -7,6 +7,7 @@ use Rattle.std.specs.Prelude.{ℕ, ◌<◌, ◌≤◌, List, length, Some, None}
 use Rattle.seq_model.specs.Bounds.{IsNearFacet}
 use Rattle.stl_text.specs.declared.parts.Part.{Part}
 use Rattle.stl_text.specs.declared.parts.Part.TheVariants.{Facet, Ending}
+use Rattle.seq_limits.specs.declared.TheConstants.{MOST_FACETS}
 
 pub record ComesOn (bytes : List ℕ) (at to : ℕ) : Type 0 where
   pub forward : at < to
@@ -14,7 +15,7 @@ pub record ComesOn (bytes : List ℕ) (at to : ℕ) : Type 0 where
 
 pub record FacetFits (bytes : List ℕ) (at to count : ℕ) : Type 0 where
   pub comes_on : ComesOn bytes at to
-  pub room : count < 200_000
+  pub room : count < MOST_FACETS
 
 abbrev pub PartFits : List ℕ → ℕ → ℕ → Part → Type 0
 PartFits bytes at count (Facet f to) = FacetFits bytes at to count × IsNearFacet f

@@ -8,6 +8,7 @@ ghost use Rattle.stl_text.specs.Reading.{Reads};
 use crate::words::{is_spelled, next_word};
 use crate::{Keyword, Stl};
 use decimal_lengths::read_um;
+use seq_limits::FARTHEST;
 use seq_model::{Facet, Point3};
 
 /// How a keyword is told to a person. Those that are one word are spelled so in a file.
@@ -63,7 +64,7 @@ fn number(bytes: &[u8], at: usize) -> Result<(i64, usize), Stl>
     ensures reads { Reads (number bytes.now at) result }
     ensures forward { IfOk result (λ n. at ≤ n.1) }
     ensures within { IfOk result (λ n. n.1 ≤ length bytes.now) }
-    ensures near { IfOk result (λ n. unsigned_abs n.0 ≤ 10_000_000) }
+    ensures near { IfOk result (λ n. unsigned_abs n.0 ≤ FARTHEST) }
 {
     let word = next_word(bytes, at);
     match read_um(&bytes[word.from..word.to]) {

@@ -4,6 +4,7 @@ ghost use Rattle.std.specs.Prelude.{◌≡◌, ◌≤◌, ◌<◌, ◌+◌, ◌�
 ghost use Rattle.stl_text.specs.Meshes.{HasThreeCorners, WithFacet, nothing, count};
 
 use owned_lists::Items;
+use seq_limits::MOST_FACETS;
 use seq_model::Facet;
 use std::alloc::{AllocError, Global};
 
@@ -41,7 +42,7 @@ impl Found {
 
     /// How many were found, dropped ones too.
     pub fn count(&self) -> usize
-        requires { count self.now ≤ 200_000 }
+        requires { count self.now ≤ MOST_FACETS }
         ensures { result ≡ count self.now }
     {
         self.facets.len() + self.dropped as usize
@@ -49,7 +50,7 @@ impl Found {
 
     /// Keeps the facet if no two of its corners are equal, and drops it otherwise.
     pub fn add(&mut self, facet: Facet) -> Result<(), AllocError>
-        requires { count self.old < 200_000 }
+        requires { count self.old < MOST_FACETS }
         ensures { IfOk result (λ _. WithFacet facet self.old self.new) }
     {
         if has_three_corners(&facet) {

@@ -10,6 +10,7 @@ ghost use Rattle.stl_text.specs.Reading.{Reads};
 use crate::Stl;
 use crate::found::Found;
 use crate::parts::{Part, next_part, opening};
+use seq_limits::MOST_FACETS;
 use seq_model::Mesh;
 use std::alloc::Global;
 
@@ -29,7 +30,7 @@ fn is_binary(bytes: &[u8]) -> bool
 fn body(alloc: Global, bytes: &[u8], first: usize) -> Result<Found, Stl>
     requires { first ≤ length bytes.now }
     ensures found { IfOk result (λ found. Reads (body bytes.now first nothing) (Ok found)) }
-    ensures few { IfOk result (λ found. count found ≤ 200_000) }
+    ensures few { IfOk result (λ found. count found ≤ MOST_FACETS) }
     ensures near { IfOk result (λ found. All IsNearFacet found.facets) }
     ensures refused { IfErr result
         (λ e. (e ≡ Stl.NoMemory) ⊎ Reads (body bytes.now first nothing) (Err e)) }

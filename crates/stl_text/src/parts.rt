@@ -8,6 +8,7 @@ ghost use Rattle.stl_text.specs.Reading.{Reads};
 use crate::facets::{facet, keyword};
 use crate::words::{is_spelled, next_word, rest_of_line};
 use crate::{Keyword, Stl};
+use seq_limits::MOST_FACETS;
 use seq_model::Facet as Triangle;
 
 /// What stands next in a solid, and the place behind it.
@@ -17,8 +18,6 @@ pub enum Part {
     /// The last line of the solid, and the first one of the next if there is one.
     Ending(Option<usize>),
 }
-
-const MOST_FACETS: usize = 200_000;
 
 /// The place behind the first line of a solid.
 pub fn opening(bytes: &[u8], at: usize) -> Result<usize, Stl>

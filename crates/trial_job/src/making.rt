@@ -9,6 +9,7 @@ use mesh_slices::{Slice, object};
 use owned_lists::Items;
 use printer_text::{Prn, read_printer};
 use seq_io::MemFile;
+use seq_limits::{MOST_FACETS, MOST_OBJECTS};
 use seq_model::{Job, Mesh, Object, Printer};
 use seq_num::NoMemory;
 use seq_trial::trial_files;
@@ -68,7 +69,7 @@ fn made_mesh(alloc: Global, file: &MemFile) -> Result<Mesh, NoMemory>
 // How many facets were read of a mesh, those that were dropped among them.
 fn facets_read(mesh: &Mesh) -> u64
     ensures count { result ≡ length mesh.now.facets + mesh.now.dropped }
-    ensures few { result ≤ 200_000 }
+    ensures few { result ≤ MOST_FACETS }
 {
     mesh.facets.len() as u64 + u64::from(mesh.dropped)
 }
@@ -78,7 +79,7 @@ fn made_object(alloc: Global, file: &MemFile, printer: &Printer) -> Result<Made,
     requires file { IsUsableFile file.now }
     requires step { printer.now.step ≡ pos 10_000 }
     ensures is { IfOk result (λ made. IsMadeObject printer.now file.now made.object made.facets) }
-    ensures few { IfOk result (λ made. made.facets ≤ 200_000) }
+    ensures few { IfOk result (λ made. made.facets ≤ MOST_FACETS) }
 {
     let mesh = made_mesh(alloc, file)?;
     match object(alloc, file.name.as_str(), &mesh, printer) {
@@ -94,7 +95,7 @@ fn made_object(alloc: Global, file: &MemFile, printer: &Printer) -> Result<Made,
 // The objects of made files, in their order.
 fn made_objects(alloc: Global, files: &[MemFile], printer: &Printer) -> Result<MadeAll, NoMemory>
     requires files { AreUsableFiles files.now }
-    requires few { length files.now ≤ 16 }
+    requires few { length files.now ≤ MOST_OBJECTS }
     requires step { printer.now.step ≡ pos 10_000 }
     ensures { IfOk result (λ all. AreMadeObjects printer.now files.now all.objects all.facets) }
 {
@@ -111,7 +112,7 @@ fn made_objects(alloc: Global, files: &[MemFile], printer: &Printer) -> Result<M
 /// The job of the files that are made of so many objects from a seed. Want of memory is the only refusal.
 pub fn trial_job(alloc: Global, objects: u32, seed: u64) -> Result<TrialJob, NoMemory>
     requires some { 1 ≤ objects }
-    requires few { objects ≤ 16 }
+    requires few { objects ≤ MOST_OBJECTS }
     requires seed { seed < 2 ^ 32 }
     ensures { IfOk result (λ trial. IsTrial objects seed trial.job trial.facets) }
 {

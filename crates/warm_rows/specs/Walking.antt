@@ -4,8 +4,7 @@
 --   OnWalk first table steps new    a walk from the first table is at the new one, and its pivots are noted behind the steps
 --   AtEnd first table steps new turn    it has ended there, and the turn says why
 use Rattle.std.specs.Prelude.{◌≡◌, List, [], ◌∷◌, ◌++◌}
-use Rattle.feasible_point.specs.Laws.Solving.{ReachedAt}
-use Rattle.feasible_point.specs.Walked.{Ended, NothingToLeave, WalksFrom}
+use Rattle.feasible_point.specs.Walked.{Ended, NothingToLeave, WalksFrom, ReachedAt}
 use Rattle.row_dictionary.specs.Seen.{Seen, basis_of}
 use Rattle.row_dictionary.specs.declared.turn.Turn.{Turn}
 use Rattle.row_dictionary.specs.declared.turn.Turn.TheVariants as Turns

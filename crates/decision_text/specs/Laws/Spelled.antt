@@ -20,7 +20,6 @@ use Rattle.cert_text.specs.declared.block.Kind.TheVariants as Kinds
 use Rattle.decision_text.specs.DecisionText.{IsTextOf, block_text, decision_text, excludes, outcome_text, placed, statement_for, statement_of, tried, tried_wide}
 use Rattle.node_looks.specs.Looks.{IsFound}
 use Rattle.plan_laws.specs.Laws.Audits.{no_repeat}
-use Rattle.plan_laws.specs.Laws.PlanPoints.{no_place}
 use Rattle.plan_text.specs.PlanText.{IsPlanFile, begins_place, has_places, is_block_due, plan_text}
 use Rattle.plan_text.specs.Reading.{bare}
 use Rattle.plan_text.specs.declared.file.PlanFile.{PlanFile}
@@ -33,7 +32,7 @@ use Rattle.plate_shrink.specs.declared.outcome.Outcome.TheVariants as Outcomes
 use Rattle.refinement_loop.specs.Decisions.{IsDecision, IsPrintable}
 use Rattle.refinement_loop.specs.declared.deciding.Decision.{Decision}
 use Rattle.refinement_loop.specs.declared.deciding.Decision.TheVariants as Decisions
-use Rattle.seq_model.specs.Jobs.{scene_of_job}
+use Rattle.seq_model.specs.Jobs.{scene_of_job, no_place}
 use Rattle.seq_model.specs.Scenes.{Valid}
 use Rattle.seq_model.specs.declared.job.Job.{Job}
 use Rattle.seq_model.specs.declared.plan.Place.{Place}
@@ -41,9 +40,10 @@ use Rattle.seq_model.specs.declared.plan.Plan.{Plan}
 use Rattle.seq_model.specs.declared.tree.Tree.{Tree}
 use Rattle.seq_model.specs.declared.tree.WideNote.{WideNote}
 use Rattle.text_lines.specs.Reading.{literal_at}
+use Rattle.seq_limits.specs.declared.TheConstants.{MOST_OBJECTS}
 
 -- ---- plans
-pub few_places : (job : Job) (e : ℕ) (plan : Plan) → Valid (scene_of_job job) e plan → length plan.places ≤ 16
+pub few_places : (job : Job) (e : ℕ) (plan : Plan) → Valid (scene_of_job job) e plan → length plan.places ≤ MOST_OBJECTS
 few_places job e plan valid = omega (arith, at_most, job.sound.few, length-map plan.places object_of)
   where
     object_of : Place → ℕ

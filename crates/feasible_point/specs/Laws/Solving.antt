@@ -19,7 +19,7 @@ use Rattle.row_dictionary.specs.declared.turn.Turn.TheVariants as Turns
 use Rattle.feasible_point.specs.Answering.{Answers, Solves, mults_of}
 use Rattle.feasible_point.specs.Shortening.{Shortened, IsTaking, IsShortest}
 use Rattle.feasible_point.specs.Laws.Shorter.{Certifies, certifies}
-use Rattle.feasible_point.specs.Walked.{Reached, Walks, GoesOn, Ended}
+use Rattle.feasible_point.specs.Walked.{Reached, Walks, GoesOn, Ended, ReachedAt}
 use Rattle.feasible_point.specs.Laws.Walking.{table, steps_of, pivots_to, fewer, reached_next, walk_to, walk_wide, never_wide, stops_point, stops_none, upto_is, meets}
 use Rattle.feasible_point.specs.declared.Solved.{Solved}
 use Rattle.feasible_point.specs.declared.Solved.TheVariants as Solveds
@@ -28,9 +28,6 @@ use Rattle.seq_model.specs.Systems.{MeetsRows, Contradiction}
 use Rattle.seq_model.specs.Walks.{constant, slacks, Ends, WalkWide}
 use Rattle.seq_model.specs.declared.row.Row.{Row}
 use Rattle.seq_model.specs.declared.tree.Mult.{Mult}
-
-abbrev pub ReachedAt : List Row → List ℕ → Seen → Type 0
-ReachedAt rows start t = Reached t.vars rows start (rising (t.vars + length rows) t.basic)
 
 pub record GoneOn (rows : List Row) (start : List ℕ) (old new : Seen) : Type 0 where
   pub held : IsOf rows new

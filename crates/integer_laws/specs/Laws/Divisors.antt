@@ -19,11 +19,10 @@ use Rattle.std.proofs.lemmas.Nat.Gcd.{IsGcd-from_zero, IsGcd-from_mod, same_from
 use Rattle.std.proofs.Math.Nat.{dvd-mul_left_of_dvd, dvd-mul_right, div-add-mod, dvd-add_iff_right, mul-dvd-mul_left, dvd_of_mul-dvd-mul_left, eq-one_of_dvd-one, zero-dvd}
 use Rattle.integer_laws.specs.Laws.Order.{cancel_same}
 use Rattle.integer_laws.specs.Laws.Ring as Ring
-use Rattle.integer_laws.specs.Divisors.{AreCoprime, IsGcdOf, IsPrimitive, Reduces}
+use Rattle.integer_laws.specs.Divisors.{AreCoprime, gcd_of, gcd_within, IsGcdOf, IsPrimitive, Reduces}
 
 -- what Euclid's algorithm keeps
-record Euclid (a b : ℕ) : Type 0 where
-  g : ℕ
+record Euclid (a b g : ℕ) : Type 0 where
   is : IsGcd a b g
   multiples : (c x : ℕ) → c ∣ a * x → c ∣ b * x → c ∣ g * x
 
@@ -37,20 +36,21 @@ rest_divides a b c x h k =
     parts : (a b q r x : ℕ) → a ≡ b * q + r → a * x ≡ q * (b * x) + r * x
     parts a b q r x e = ap (λ t. t * x) e ∙ spread (b * q) r x ∙ ap (λ t. t + r * x) (ap (λ t. t * x) (mul_comm b q) ∙ mul_assoc q b x)
 
-euclid : (steps a b : ℕ) → b ≤ steps → Euclid a b
-euclid steps a zero h = record { g = a; is = IsGcd-from_zero a 0 refl; multiples = λ c x h k. h }
+euclid : (steps a b : ℕ) → b ≤ steps → Euclid a b (gcd_within steps a b)
+unfolding gcd_within
+euclid steps a zero h = record { is = IsGcd-from_zero a 0 refl; multiples = λ c x h k. h }
 euclid zero a (suc b) h = absurd (omega arith)
 euclid (suc steps) a (suc b) h =
     let r = euclid steps (suc b) (a % suc b) (omega (arith, mod-lt a {m = suc b} (omega arith))) in
-    record { g = r.g; is = IsGcd-from_mod a (suc b) r.g r.is; multiples = λ c x h k. r.multiples c x k (rest_divides a (suc b) c x h k) }
+    record { is = IsGcd-from_mod a (suc b) (gcd_within steps (suc b) (a % suc b)) r.is; multiples = λ c x h k. r.multiples c x k (rest_divides a (suc b) c x h k) }
 
 pub gcd_is : (a b : ℕ) → (g : ℕ) × IsGcd a b g
-gcd_is a b = let e = euclid b a b (le_refl b) in (e.g, e.is)
+gcd_is a b = (gcd_of a b, (euclid b a b (le_refl b)).is)
 
 pub gcd_mul : (a b g c x : ℕ) → IsGcd a b g → c ∣ a * x → c ∣ b * x → c ∣ g * x
 gcd_mul a b g c x is h k =
     let e = euclid b a b (le_refl b) in
-    subst (λ t. c ∣ t * x) (same_from_IsGcd a b e.g g e.is is) (e.multiples c x h k)
+    subst (λ t. c ∣ t * x) (same_from_IsGcd a b (gcd_of a b) g e.is is) (e.multiples c x h k)
 
 is_one : (a b : ℕ) → AreCoprime a b → IsGcd a b 1
 is_one a b c = let e = gcd_is a b in subst (IsGcd a b) (c e.0 e.1.0 e.1.1) e.1

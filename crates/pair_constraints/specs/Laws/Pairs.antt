@@ -26,6 +26,7 @@ use Rattle.seq_model.specs.declared.plan.Place.{Place}
 use Rattle.seq_model.specs.declared.printer.Part.{Part}
 use Rattle.seq_model.specs.declared.printer.Spot.{Spot}
 use Rattle.seq_model.specs.declared.tree.Contact.{Contact}
+use Rattle.seq_limits.specs.declared.TheConstants.{MOST_BANDS}
 
 abbrev pub ZonesHit : Zone → Part → Zone → Point → Point → Type 0
 ZonesHit a part b p r = ZonesMeet a part b × Overlap a.corners b.corners part.corners p r
@@ -112,7 +113,7 @@ pub a_collision : (job : Job) (i j : ℕ) (p r : Point) (c : Contact) → Collid
 a_collision job i j p r c k =
     subst (λ a. Collides (scene_of_job job) a p j r) k.0 (subst (λ b. Collides (scene_of_job job) c.i p b r) k.1 (contact_collides job c p r k.2))
 
-pub few_of : (job : Job) (i : ℕ) → i < length job.objects → length (object_at job i).zones ≤ 200
+pub few_of : (job : Job) (i : ℕ) → i < length job.objects → length (object_at job i).zones ≤ MOST_BANDS
 few_of job i l =
     let o = sound_object job i l in
     let few = few_zones (object_at job i).bands (object_at job i).zones o.zones in

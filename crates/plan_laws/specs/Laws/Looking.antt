@@ -10,12 +10,12 @@ use Rattle.std.proofs.lemmas.Bool.{cases_lt}
 use Rattle.std.proofs.lemmas.List.{get_or_default}
 use Rattle.std.proofs.lemmas.List.Elements.{AllZip-push, All-contains, Contains-append_left, Contains-append_right, Contains-get_or}
 use Rattle.std.specs.List.{AllZip}
-use Rattle.plan_laws.specs.Laws.OnPath.{is_before, before_is, is_on}
+use Rattle.plan_laws.specs.Laws.OnPath.{before_is, is_on}
 use Rattle.integer_laws.specs.Laws.Members.{In-from_contains, Contains-from_in}
 use Rattle.object_orders.specs.Orders.{IsAmong, AreAmong, IsOrder, IsSimpleCycle, EachNext, StandsBefore}
 use Rattle.plan_laws.specs.Ordered.{plan_of, orders_of}
 use Rattle.plan_laws.specs.Laws.Ordered.{orders_hold, one_place, plan_is_valid}
-use Rattle.plan_laws.specs.Looking.{OnPath, IsLooked, AreLooked, AreForced, EarnsPair, EarnsAPair, IsOnOrEarned, Causes}
+use Rattle.plan_laws.specs.Looking.{OnPath, IsLooked, AreLooked, AreForced, EarnsPair, EarnsAPair, IsOnOrEarned, Causes, is_before}
 use Rattle.seq_model.specs.Jobs.{scene_of_job}
 use Rattle.seq_model.specs.Scenes.{Valid}
 use Rattle.seq_model.specs.Splits.{Values, IsOn, CollidesAt, IsUnordered, Precedes, AreNeighbours, Earned}

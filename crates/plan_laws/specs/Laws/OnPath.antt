@@ -1,6 +1,5 @@
 -- A test whether an order is on a path.
 --
---   is_before path i j    i before j is on the path
 --   before_is, is_on      it is so exactly where it is a member
 --   or_cases, and_cases   what two tests say together
 --   never                 no test says both
@@ -10,6 +9,7 @@ use Rattle.std.proofs.lemmas.Bool.{eqb-true, eq-eqb}
 use Rattle.integer_laws.specs.Members.{In}
 use Rattle.seq_model.specs.declared.tree.Choice.{Choice}
 use Rattle.seq_model.specs.declared.tree.Choice.TheVariants as Choices
+use Rattle.plan_laws.specs.Looking.{is_before}
 
 pub or_cases : (a b : Bool) → (a || b) ≡ true → (a ≡ true) ⊎ (b ≡ true)
 or_cases true b h = inl refl
@@ -25,11 +25,6 @@ never b t f = subst (λ (x : Bool). cond x (Unit {0}) ⊥) (sym t ∙ f) tt
 or_right : (a : Bool) → (a || true) ≡ true
 or_right true = refl
 or_right false = refl
-
-abbrev pub is_before : List Choice → ℕ → ℕ → Bool
-is_before [] i j = false
-is_before (Choices.Before a b ∷ path) i j = (eqb a i && eqb b j) || is_before path i j
-is_before (Choices.Side d dir ∷ path) i j = is_before path i j
 
 pub before_is : (path : List Choice) (i j : ℕ) → is_before path i j ≡ true → In (Choices.Before i j) path
 before_is [] i j h = absurd (never false h refl)

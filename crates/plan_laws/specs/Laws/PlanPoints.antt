@@ -16,7 +16,7 @@ use Rattle.std.specs.Prelude.{count_by, nat_eq}
 use Rattle.plan_laws.specs.Inside.{place_at, IsInside, AreInside, IsBounded}
 use Rattle.plan_laws.specs.Laws.Inside.{bounded_where_inside}
 use Rattle.plan_laws.specs.Ordered.{IsClear}
-use Rattle.seq_model.specs.Jobs.{object_at, scene_of_job}
+use Rattle.seq_model.specs.Jobs.{object_at, scene_of_job, no_place}
 use Rattle.seq_model.specs.Plates.{share_of, half_left}
 use Rattle.seq_model.specs.Points.{Point, place_point}
 use Rattle.seq_model.specs.Scenes.{Collides, Valid}
@@ -25,9 +25,6 @@ use Rattle.seq_model.specs.Systems.{MeetsRows, row_value, bounds_of, system, pla
 use Rattle.seq_model.specs.declared.job.Job.{Job}
 use Rattle.seq_model.specs.declared.plan.Place.{Place}
 use Rattle.seq_model.specs.declared.plan.Plan.{Plan}
-
-abbrev pub no_place : Place
-no_place = record { object = 0; x = pos 0; y = pos 0 }
 
 abbrev pub place_for : List Place → ℕ → Place
 place_for [] o = no_place

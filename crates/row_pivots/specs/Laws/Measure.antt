@@ -20,6 +20,7 @@ use Rattle.std.proofs.Math.Nat.{zero-dvd}
 use Rattle.std.specs.Int.{◌∣◌, IsGcd}
 use Rattle.std.specs.Prelude.{nat_eq, if◌then◌else◌}
 use lib.Dec.{T}
+use Rattle.integer_laws.specs.Divisors.{gcd_of}
 use Rattle.integer_laws.specs.Laws.Divisors.{gcd_is, exact_quotient}
 use Rattle.integer_laws.specs.Members.{In}
 use Rattle.integer_laws.specs.Laws.Order.{mul_positive, cancel_lt}
@@ -49,18 +50,18 @@ use Rattle.row_pivots.specs.Tables.{place_of}
 line_divides : (g : ℕ) (xs : List ℤ) (k : ℕ) → (k ∣ line_content g xs) ↔ ((k ∣ g) × All (λ x. k ∣ unsigned_abs x) xs)
 unfolding line_content
 line_divides g [] k = (λ h. (h, All-nil (λ x. k ∣ unsigned_abs x)), λ p. p.0)
-line_divides g (x ∷ xs) k = by (line_divides (gcd_is g (unsigned_abs x)).0 xs k)
+line_divides g (x ∷ xs) k = by (line_divides (gcd_of g (unsigned_abs x)) xs k)
   where
-    by : ((k ∣ line_content (gcd_is g (unsigned_abs x)).0 xs) ↔ ((k ∣ (gcd_is g (unsigned_abs x)).0) × All (λ x. k ∣ unsigned_abs x) xs)) → (k ∣ line_content (gcd_is g (unsigned_abs x)).0 xs) ↔ ((k ∣ g) × All (λ x. k ∣ unsigned_abs x) (x ∷ xs))
+    by : ((k ∣ line_content (gcd_of g (unsigned_abs x)) xs) ↔ ((k ∣ (gcd_of g (unsigned_abs x))) × All (λ x. k ∣ unsigned_abs x) xs)) → (k ∣ line_content (gcd_of g (unsigned_abs x)) xs) ↔ ((k ∣ g) × All (λ x. k ∣ unsigned_abs x) (x ∷ xs))
     by more = (there more, back more)
       where
-        G : IsGcd g (unsigned_abs x) (gcd_is g (unsigned_abs x)).0
+        G : IsGcd g (unsigned_abs x) (gcd_of g (unsigned_abs x))
         G = (gcd_is g (unsigned_abs x)).1
 
-        there : ((k ∣ line_content (gcd_is g (unsigned_abs x)).0 xs) ↔ ((k ∣ (gcd_is g (unsigned_abs x)).0) × All (λ x. k ∣ unsigned_abs x) xs)) → k ∣ line_content (gcd_is g (unsigned_abs x)).0 xs → (k ∣ g) × All (λ x. k ∣ unsigned_abs x) (x ∷ xs)
+        there : ((k ∣ line_content (gcd_of g (unsigned_abs x)) xs) ↔ ((k ∣ (gcd_of g (unsigned_abs x))) × All (λ x. k ∣ unsigned_abs x) xs)) → k ∣ line_content (gcd_of g (unsigned_abs x)) xs → (k ∣ g) × All (λ x. k ∣ unsigned_abs x) (x ∷ xs)
         there more h = let m = more.0 h in (dvd_trans k m.0 G.0, All-cons (λ x. k ∣ unsigned_abs x) x xs (dvd_trans k m.0 G.1) m.1)
 
-        back : ((k ∣ line_content (gcd_is g (unsigned_abs x)).0 xs) ↔ ((k ∣ (gcd_is g (unsigned_abs x)).0) × All (λ x. k ∣ unsigned_abs x) xs)) → (k ∣ g) × All (λ x. k ∣ unsigned_abs x) (x ∷ xs) → k ∣ line_content (gcd_is g (unsigned_abs x)).0 xs
+        back : ((k ∣ line_content (gcd_of g (unsigned_abs x)) xs) ↔ ((k ∣ (gcd_of g (unsigned_abs x))) × All (λ x. k ∣ unsigned_abs x) xs)) → (k ∣ g) × All (λ x. k ∣ unsigned_abs x) (x ∷ xs) → k ∣ line_content (gcd_of g (unsigned_abs x)) xs
         back more p = more.1 (G.2 k p.0 (All-head (λ x. k ∣ unsigned_abs x) x xs p.1), All-tail (λ x. k ∣ unsigned_abs x) x xs p.1)
 
 pub content_divides : (g : ℕ) (lines : List (List ℤ)) (k : ℕ) → (k ∣ content_of g lines) ↔ ((k ∣ g) × All (λ l. All (λ x. k ∣ unsigned_abs x) l) lines)

@@ -11,7 +11,8 @@
 use Rattle.std.proofs.Common.{◌≡◌, ℕ, ◌+◌, ◌*◌, ◌^◌, ◌≤◌, Bool, true, false, cond, not, eqb, ◌&&◌, ◌||◌, List, [], ◌∷◌, length, max, refl, sym, ap, subst, ◌∙◌, arith, inl, inr, ◌⊎◌}
 use Rattle.std.specs.List.{sum_by, count_by, range_with_len}
 use Rattle.search_laws.specs.Laws.Sums.{sum_le, sum_less, by_numbers}
-use Rattle.plan_laws.specs.Laws.OnPath.{is_before, never}
+use Rattle.plan_laws.specs.Laws.OnPath.{never}
+use Rattle.plan_laws.specs.Looking.{is_before}
 use Rattle.seq_model.specs.Budgets.{over_pairs, contact_count}
 use Rattle.seq_model.specs.Contacts.{IsContact, zones_meet}
 use Rattle.seq_model.specs.Jobs.{object_at, zone_at, part_at, no_zone, no_part}

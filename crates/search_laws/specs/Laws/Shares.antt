@@ -11,7 +11,8 @@ use Rattle.std.proofs.lemmas.List.Sums.{sum_by-cons}
 use Rattle.std.proofs.lemmas.List.Elements.{All-nil, All-cons}
 use Rattle.std.specs.List.{sum_by}
 use Rattle.search_laws.specs.Laws.Allowance.{is_opened, same_contact, unopened, unopened_fewer, unopened_less, unopened_most, pair_open, pair_room, allowance, Fair, before_also_order, before_also_side, opened_also_order, opened_also_side}
-use Rattle.plan_laws.specs.Laws.OnPath.{is_before, before_is, is_on, or_cases, and_cases, never, same_pair}
+use Rattle.plan_laws.specs.Laws.OnPath.{before_is, is_on, or_cases, and_cases, never, same_pair}
+use Rattle.plan_laws.specs.Looking.{is_before}
 use Rattle.search_laws.specs.Searches.{IsEarnedTree}
 use Rattle.search_laws.specs.Laws.SideCounts.{three_at_contact}
 use Rattle.search_laws.specs.Laws.Opened.{opened_is_clear}

@@ -1,0 +1,46 @@
+//! What a job may have: each limit once, for code, clauses and definitions to cite by name.
+//!
+//! Lengths are in micrometres or in grains of the printer, as each says.
+#![tactic(auto)]
+
+/// The most objects of a job.
+pub const MOST_OBJECTS: usize = 16;
+
+/// The most bands of an object.
+pub const MOST_BANDS: u32 = 200;
+
+/// The most facets of a mesh, with those that are dropped.
+pub const MOST_FACETS: usize = 200_000;
+
+/// The most nodes that a search may look at, and the most splits above a node of a tree.
+pub const MOST_NODES: u64 = 1_000_000;
+
+/// The nodes that a search may look at where the words don't say.
+pub const USUAL_NODES: u64 = 20_000;
+
+/// The greatest size of a coordinate or a height, in micrometres: 10 m.
+pub const FARTHEST: u32 = 10_000_000;
+
+/// The least grain, in micrometres.
+pub const LEAST_GRAIN: i64 = 10;
+
+/// The greatest grain, in micrometres.
+pub const MOST_GRAIN: i64 = 10_000;
+
+/// The least height of a band, in micrometres.
+pub const LEAST_STEP: i64 = 10;
+
+/// The greatest height of a band, in micrometres.
+pub const MOST_STEP: i64 = 100_000;
+
+/// The greatest width or depth of a plate, in grains.
+pub const MOST_PLATE: i64 = 20_000;
+
+/// The greatest margin, in grains.
+pub const MOST_MARGIN: i64 = 1_000;
+
+/// The most extents of a grid.
+pub const MOST_GRID: u32 = 1_000;
+
+/// The farthest that a corner of a part is from the tip, in grains each way.
+pub const MOST_REACH: u32 = 100_000;
