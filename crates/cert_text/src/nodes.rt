@@ -3,7 +3,7 @@ ghost use Rattle.seq_model.specs.Trees.{arity};
 ghost use Rattle.cert_text.specs.declared.lines.Stop.{Stop};
 ghost use Rattle.cert_text.specs.Lines.{line_at};
 ghost use Rattle.cert_text.specs.Nodes.{AreTree, IsRefusedAt};
-ghost use Rattle.cert_text.specs.Laws.Counting.{IsOpening, IsNear, due};
+ghost use Rattle.cert_text.specs.Laws.Counting.{IsOpening, IsNearFault, due};
 
 use crate::lines::{LineFault, Stop, node_line};
 use seq_limits::MOST_NODES;
@@ -123,7 +123,7 @@ pub(crate) fn read_nodes(alloc: Global, bytes: &[u8]) -> Result<Vec<Node>, Fault
     ensures read { IfOk result (λ nodes. AreTree line_at bytes.now nodes.items) }
     ensures refused { IfErr result
         (λ fault. fault ≢ Fault.NoMemory → IsRefusedAt line_at bytes.now fault) }
-    ensures near { IfErr result IsNear }
+    ensures near { IfErr result IsNearFault }
 {
     let mut nodes = Vec::new(alloc);
     let mut openings = first(alloc)?;

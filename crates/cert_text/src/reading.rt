@@ -4,7 +4,7 @@ ghost use Rattle.cert_text.specs.declared.block.CertRead.{CertRead};
 ghost use Rattle.cert_text.specs.declared.block.Head.{Head};
 ghost use Rattle.cert_text.specs.Heads.{before, refused, IsRefusedTree};
 ghost use Rattle.cert_text.specs.TreeText.{IsTreeText};
-ghost use Rattle.cert_text.specs.Laws.Counting.{IsNear};
+ghost use Rattle.cert_text.specs.Laws.Counting.{IsNearFault};
 
 use crate::heads::read_head;
 use crate::lines::Stop;
@@ -27,7 +27,7 @@ fn before(kind: Kind) -> u64
 // Lines are counted from 1 at the block's first line, those of a fault from 0 at the first node.
 fn refused(before: u64, fault: Fault) -> CertRead
     requires before { before < 4 }
-    requires near { IsNear fault }
+    requires near { IsNearFault fault }
     ensures { result ≡ refused before fault }
 {
     match fault {

@@ -7,12 +7,12 @@ use Rattle.decimal_lengths.specs.declared.scanning.Number.{Number}
 use Rattle.decimal_lengths.specs.Decimals.{Sign, absent, plus, minus, signed}
 use Rattle.decimal_lengths.specs.Lengths.{IsReadAs}
 use Rattle.decimal_lengths.specs.Refusals.{Answers}
-use Rattle.decimal_lengths.specs.Scanning.{Spelled, is_minus, Keeps, Accepts, Stops}
+use Rattle.decimal_lengths.specs.Scanning.{Spelled, is_minus, Keeps, Accepts, StopsBy}
 use Rattle.decimal_lengths.specs.Sizes.{size_of, IsUpTo}
 use Rattle.decimal_lengths.proofs.Measuring.{length_read}
 use Rattle.decimal_lengths.proofs.Refusing.{first_bad, unfinished}
 
-pub stopped : (bytes : List ℕ) (cause : Decimal) → 0 < length bytes → length bytes ≤ 64 → Stops bytes cause → Answers bytes (Err cause)
+pub stopped : (bytes : List ℕ) (cause : Decimal) → 0 < length bytes → length bytes ≤ 64 → StopsBy bytes cause → Answers bytes (Err cause)
 stopped bytes (BadByte p) some short h = (short, first_bad bytes p h)
 stopped bytes NoDigit some short h = (some, short, unfinished bytes h)
 stopped bytes _ some short h = absurd h

@@ -11,7 +11,7 @@
 --   Keeps number x          the number in the code keeps of x what its length needs
 --   IsCounted number n      its numbers are small, and no more than n digits are counted in it
 --   Accepts bytes number    the reading comes through the bytes, and the number keeps what it gathers
---   Stops bytes cause       it doesn't come through them
+--   StopsBy bytes cause       it doesn't come through them
 use Rattle.std.specs.Prelude.{◌≡◌, ℕ, ◌+◌, ◌*◌, ◌-◌, ◌/◌, ◌^◌, ◌<◌, ◌≤◌, min, ◌==◌, ◌||◌, Bool, true, false, List, length, take, Option, Some, None, fold, if◌then◌else◌}
 use Rattle.std.specs.Option.{option_map}
 use Rattle.std.specs.Char.{is_ascii_digit}
@@ -145,7 +145,7 @@ pub record StopsShort (bytes : List ℕ) : Type 0 where
   pub came : reading bytes ≡ Some state
   pub incomplete : ¬ IsComplete state.phase
 
-abbrev pub Stops : List ℕ → Decimal → Type 0
-Stops bytes (BadByte p) = StopsAt bytes p
-Stops bytes NoDigit = StopsShort bytes
-Stops bytes _ = ⊥
+abbrev pub StopsBy : List ℕ → Decimal → Type 0
+StopsBy bytes (BadByte p) = StopsAt bytes p
+StopsBy bytes NoDigit = StopsShort bytes
+StopsBy bytes _ = ⊥

@@ -1,7 +1,7 @@
 //! One pass over the bytes of a decimal, which gathers its numbers.
 
 ghost use Rattle.std.specs.Prelude.{◌≡◌, ◌≤◌, ◌<◌, ◌+◌, ◌*◌, ◌^◌, ◌↔◌, ℕ, min, length, IfOk, IfErr, IsTrue};
-ghost use Rattle.decimal_lengths.specs.Scanning.{kind_of, next_phase, IsComplete, HasDigit, Spelled, nothing, with_kind, KeepsDigits, Keeps, IsCounted, Accepts, Stops};
+ghost use Rattle.decimal_lengths.specs.Scanning.{kind_of, next_phase, IsComplete, HasDigit, Spelled, nothing, with_kind, KeepsDigits, Keeps, IsCounted, Accepts, StopsBy};
 
 use crate::Decimal;
 
@@ -183,7 +183,7 @@ impl Number {
 pub fn scan(bytes: &[u8]) -> Result<Number, Decimal>
     requires { length bytes.now ≤ 64 }
     ensures accepted { IfOk result (λ number. Accepts bytes.now number) }
-    ensures refused { IfErr result (λ cause. Stops bytes.now cause) }
+    ensures refused { IfErr result (λ cause. StopsBy bytes.now cause) }
 {
     let mut phase = Phase::Start;
     let mut number = Number::zero();

@@ -1,6 +1,6 @@
 -- When each answer comes: just where what it says is so; and that it is read off where the walk ends.
 --
---   IsPoint, IsContradiction, IsWideAnswer solved     which of the three it is
+--   IsPointAnswer, IsContradiction, IsWideAnswer solved     which of the three it is
 --   SomePoint rows               some point meets all rows
 --   NoPoint rows                 no point meets all rows
 --   SomeWide vars rows           the walk from all slacks ends before a wide basis
@@ -18,10 +18,10 @@ use Rattle.seq_model.specs.Systems.{MeetsRows}
 use Rattle.seq_model.specs.Walks.{WalkWide, slacks}
 use Rattle.seq_model.specs.declared.row.Row.{Row}
 
-abbrev pub IsPoint : Solved → Type 0
-IsPoint (Solveds.Point den list) = Unit {0}
-IsPoint (Solveds.Contradiction list) = ⊥
-IsPoint (Solveds.Wide basis row) = ⊥
+abbrev pub IsPointAnswer : Solved → Type 0
+IsPointAnswer (Solveds.Point den list) = Unit {0}
+IsPointAnswer (Solveds.Contradiction list) = ⊥
+IsPointAnswer (Solveds.Wide basis row) = ⊥
 
 abbrev pub IsContradiction : Solved → Type 0
 IsContradiction (Solveds.Point den list) = ⊥
@@ -43,7 +43,7 @@ abbrev pub SomeWide : ℕ → List Row → Type 0
 SomeWide vars rows = (basis : List ℕ) × (row : ℕ) × WalkWide vars rows basis row
 
 pub record Exactly (vars : ℕ) (rows : List Row) (solved : Solved) : Type 0 where
-  pub point : IsPoint solved ↔ (SomePoint rows × NeverWide vars rows)
+  pub point : IsPointAnswer solved ↔ (SomePoint rows × NeverWide vars rows)
   pub contradiction : IsContradiction solved ↔ (NoPoint rows × NeverWide vars rows)
   pub wide : IsWideAnswer solved ↔ SomeWide vars rows
 

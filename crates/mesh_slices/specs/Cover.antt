@@ -2,7 +2,7 @@
 --
 --   SpacePoint                    the point x / d, y / d, z / d
 --   three f                       the corners of a facet
---   IsOn f q                      q is a point of the facet: a mean of its corners, with weights of at least 0, not all 0
+--   LiesOn f q                      q is a point of the facet: a mean of its corners, with weights of at least 0, not all 0
 --   LiesInBand facets step b q    the height of q is that of band b, where the least z of the mesh is 0
 --   HasBand facets step q         the mesh has a band with the height of q
 --   in_grains g q                 the point of the plane below q, in grains of g µm
@@ -33,7 +33,7 @@ abbrev pub three : Facet → List Point3
 three f = f.a ∷ f.b ∷ f.c ∷ []
 
 -- a mean of the facet's corners, by weights of at least 0, not all 0
-pub record IsOn (f : Facet) (q : SpacePoint) : Type 0 where
+pub record LiesOn (f : Facet) (q : SpacePoint) : Type 0 where
   pub positive : pos 1 ≤ℤ q.d
   pub w : List ℤ
   pub weights : AreWeights (pos 0) (three f) w
@@ -58,7 +58,7 @@ in_grains grain q = record { x = q.x; y = q.y; d = q.d *ℤ grain }
 
 -- no point of the mesh in band b lies outside S
 pub record Covers (facets : List Facet) (grain step : ℤ) (b : ℕ) (S : List Spot) : Type 0 where
-  pub each : (f : Facet) (q : SpacePoint) → Contains facets f → IsOn f q → LiesInBand facets step b q → Within S (in_grains grain q)
+  pub each : (f : Facet) (q : SpacePoint) → Contains facets f → LiesOn f q → LiesInBand facets step b q → Within S (in_grains grain q)
 
 -- a zone holds the band, and the point lies within its corners
 pub record LiesInZone (zones : List Zone) (b : ℕ) (q : Point) : Type 0 where
@@ -69,4 +69,4 @@ pub record LiesInZone (zones : List Zone) (b : ℕ) (q : Point) : Type 0 where
 
 -- no point of the mesh in a band of the object lies outside the zone that holds the band
 pub record ZonesCover (printer : Printer) (facets : List Facet) (o : Object) : Type 0 where
-  pub each : (b : ℕ) → b < o.bands → (f : Facet) (q : SpacePoint) → Contains facets f → IsOn f q → LiesInBand facets printer.step b q → LiesInZone o.zones b (in_grains printer.grain q)
+  pub each : (b : ℕ) → b < o.bands → (f : Facet) (q : SpacePoint) → Contains facets f → LiesOn f q → LiesInBand facets printer.step b q → LiesInZone o.zones b (in_grains printer.grain q)

@@ -14,7 +14,7 @@ ghost use Rattle.seq_model.specs.Outlines.{spots, Within};
 ghost use Rattle.seq_model.specs.Scenes.{Scene, Valid, Least, scene_of_files, description_of};
 ghost use Rattle.seq_model.specs.Points.{at_spot};
 ghost use Rattle.mesh_slices.specs.Agreement.{Agree, HasZonesOf, IsMadeFrom};
-ghost use Rattle.mesh_slices.specs.Cover.{SpacePoint, IsOn, HasBand, Covers, ZonesCover};
+ghost use Rattle.mesh_slices.specs.Cover.{SpacePoint, LiesOn, HasBand, Covers, ZonesCover};
 ghost use Rattle.mesh_slices.specs.Objects.{IsOutlineOf, IsObjectOf};
 
 /// Scenes that agree have the same valid plans.
@@ -65,7 +65,7 @@ pub fn what_holds_the_spots_covers_the_band()
 /// Each point of a facet has the height of one of the bands of its mesh.
 pub fn each_point_of_a_mesh_has_a_band()
     ensures { (facets : List Facet) (step : ℤ) (f : Facet) (q : SpacePoint)
-        → pos 1 ≤ℤ step → Contains facets f → IsOn f q → HasBand facets step q }
+        → pos 1 ≤ℤ step → Contains facets f → LiesOn f q → HasBand facets step q }
 {}
 
 /// No point of a mesh in a band is lost: it lies, in grains, within the corners of the zone that holds the band.

@@ -11,7 +11,7 @@ use Rattle.node_looks.proofs.OrderLaws.{closes_on_path}
 use Rattle.node_looks.proofs.RowLaws.{side_at, rows_small, rows_few}
 use Rattle.node_looks.proofs.RowLaws as R
 use Rattle.node_looks.specs.Held.{HoldsOrders, IsOrderOf}
-use Rattle.node_looks.specs.Trails.{FollowsPath, HasOnlyRows, IsTrail, IsWarmed, StandsAt, orders_of, path_of}
+use Rattle.node_looks.specs.Trails.{FollowsPath, HasOnlyRows, IsTrail, IsWarmed, IsTrailOf, orders_of, path_of}
 use Rattle.node_looks.specs.declared.trail.Level.{Level}
 use Rattle.node_looks.specs.declared.trail.Trail.{Trail}
 use Rattle.object_orders.specs.Orders.{AreAmong, ClosesCycle, Graph, IsAmong}
@@ -199,8 +199,8 @@ trail_more job t u l more is e extent vars steps rows before objects held among 
 pub taken : (path : List Choice) (k : ℕ) (c : Choice) → slice_get path k ≡ Some c → take (k + 1) path ≡ also (take k path) c
 taken path k c there = take_more path k c (slice_get_within path k c there) ∙ ap (λ x. also (take k path) x) (get_or_from_slice_get path k c c there)
 
-pub stands_more : (job : Job) (e k : ℕ) (path : List Choice) (t u : Trail) (l : Level) → StandsAt job e (take k path) t → IsTrail job u → u.extent ≡ t.extent → u.levels.items ≡ t.levels.items ++ l ∷ []
-    → slice_get path k ≡ Some l.choice → StandsAt job e (take (k + 1) path) u
+pub stands_more : (job : Job) (e k : ℕ) (path : List Choice) (t u : Trail) (l : Level) → IsTrailOf job e (take k path) t → IsTrail job u → u.extent ≡ t.extent → u.levels.items ≡ t.levels.items ++ l ∷ []
+    → slice_get path k ≡ Some l.choice → IsTrailOf job e (take (k + 1) path) u
 unfolding one
 stands_more job e k path t u l at is extent levels there = record {
   trail = is;
@@ -221,7 +221,7 @@ trail_repaired job t u is on levels extent graph orders = record {
   few = omega (arith, orders, is.few);
 }
 
-pub stands_rows : (job : Job) (e : ℕ) (path : List Choice) (t : Trail) → StandsAt job e path t → rows_of t.warm.steps ≡ system job e path
+pub stands_rows : (job : Job) (e : ℕ) (path : List Choice) (t : Trail) → IsTrailOf job e path t → rows_of t.warm.steps ≡ system job e path
 stands_rows job e path t at = follows_rows job t.extent t.warm.steps 0 [] t.levels.items at.trail.rows ∙ ap (λ k. system job k (path_of t.levels.items)) at.extent ∙ ap (system job e) at.choices
 
 -- ---- what a side adds
@@ -266,7 +266,7 @@ side_addable job e k path c d is short high there = record {
 on_longer : (path : List Choice) (n a b : ℕ) → OnPath (take n path) a b → OnPath path a b
 on_longer path n a b on = subst (λ p. OnPath p a b) (take-append-drop n path) (Contains-append_left (take n path) (drop n path) (Choices.Before a b) on)
 
-pub trail_cycle : (job : Job) (e k : ℕ) (path : List Choice) (t : Trail) (i j : ℕ) (objects : List ℕ) → StandsAt job e (take k path) t → slice_get path k ≡ Some (Choices.Before i j) → IsAmong (length job.objects) (i, j)
+pub trail_cycle : (job : Job) (e k : ℕ) (path : List Choice) (t : Trail) (i j : ℕ) (objects : List ℕ) → IsTrailOf job e (take k path) t → slice_get path k ≡ Some (Choices.Before i j) → IsAmong (length job.objects) (i, j)
     → ClosesCycle t.graph.held i j objects → IsCycle (OnPath path) objects
 trail_cycle job e k path t i j objects at there among closes =
     closes_on_path path (length job.objects) i j t.graph.held objects held among (k, slice_get_within path k (Choices.Before i j) there, get_or_from_slice_get path k (Choices.Before i j) (Choices.Before i j) there) closes
@@ -277,7 +277,7 @@ trail_cycle job e k path t i j objects at there among closes =
     held : All (IsOrderOf path (length job.objects)) t.graph.held
     held = λ m d l. (at.trail.among m d l, on (get_or t.graph.held m d) (Contains-get_or t.graph.held m d l))
 
-pub trail_holds : (job : Job) (e : ℕ) (path : List Choice) (t : Trail) → StandsAt job e path t → HoldsOrders path (length job.objects) (length job.objects) 0 t.graph
+pub trail_holds : (job : Job) (e : ℕ) (path : List Choice) (t : Trail) → IsTrailOf job e path t → HoldsOrders path (length job.objects) (length job.objects) 0 t.graph
 trail_holds job e path t at = record {
   objects = at.trail.objects;
   few = omega (arith, at.trail.few, at.trail.count);
@@ -304,7 +304,7 @@ pub rows_count : (steps : List Step) (rows : List Row) (k : ℕ) → steps ≡ m
 rows_count steps rows k e = omega (arith, ap length (ap rows_of e ∙ rows_of_rows (take k rows)), length-take k rows)
 
 pub trail_new : (job : Job) (e : ℕ) (rows : List Row) (t : Trail) → HasOnlyRows t.warm (2 * length job.objects) rows → rows ≡ system job e [] → t.levels.items ≡ [] → t.extent ≡ e
-    → t.graph ≡ record { objects = length job.objects; held = [] } → t.orders ≡ 0 → StandsAt job e [] t
+    → t.graph ≡ record { objects = length job.objects; held = [] } → t.orders ≡ 0 → IsTrailOf job e [] t
 trail_new job e rows t has same none extent graph orders = record {
   trail = record {
     vars = has.vars;
@@ -323,9 +323,9 @@ trail_new job e rows t has same none extent graph orders = record {
     held = ap (λ (g : Graph). g.held) graph
 
 -- ---- a choice entered
-pub side_entered : (job : Job) (k : ℕ) (path : List Choice) (t u : Trail) (l : Level) (w : Warmth) (row : Row) → StandsAt job t.extent (take k path) t → slice_get path k ≡ Some l.choice
+pub side_entered : (job : Job) (k : ℕ) (path : List Choice) (t u : Trail) (l : Level) (w : Warmth) (row : Row) → IsTrailOf job t.extent (take k path) t → slice_get path k ≡ Some l.choice
     → row ∷ [] ≡ side_rows job t.extent (l.choice ∷ []) → orders_of (l.choice ∷ []) ≡ [] → w.vars ≡ t.warm.vars → w.steps ≡ t.warm.steps ++ Steps.Row row ∷ [] → l.before.steps ≡ length t.warm.steps
-    → u.extent ≡ t.extent → u.warm ≡ w → u.graph ≡ t.graph → u.orders ≡ t.orders → u.levels.items ≡ t.levels.items ++ l ∷ [] → StandsAt job t.extent (take (k + 1) path) u
+    → u.extent ≡ t.extent → u.warm ≡ w → u.graph ≡ t.graph → u.orders ≡ t.orders → u.levels.items ≡ t.levels.items ++ l ∷ [] → IsTrailOf job t.extent (take (k + 1) path) u
 side_entered job k path t u l w row at there adds none vars steps before extent warm graph orders levels = stands_more job t.extent k path t u l at is extent levels there
   where
     held : u.graph.held ≡ t.graph.held
@@ -336,9 +336,9 @@ side_entered job k path t u l w row at there adds none vars steps before extent 
         (held ∙ sym (append-nil t.graph.held) ∙ ap (λ h. t.graph.held ++ h) (sym none)) (subst (AreAmong (length job.objects)) (sym none) (All-nil (IsAmong (length job.objects))))
         (orders ∙ at.trail.count ∙ ap length (sym held)) (omega (arith, orders, at.trail.few))
 
-pub order_entered : (job : Job) (k : ℕ) (path : List Choice) (t u : Trail) (l : Level) (i j : ℕ) → StandsAt job t.extent (take k path) t → slice_get path k ≡ Some l.choice → l.choice ≡ Choices.Before i j
+pub order_entered : (job : Job) (k : ℕ) (path : List Choice) (t u : Trail) (l : Level) (i j : ℕ) → IsTrailOf job t.extent (take k path) t → slice_get path k ≡ Some l.choice → l.choice ≡ Choices.Before i j
     → IsAmong (length job.objects) (i, j) → t.orders < 16 * length job.objects → l.before.steps ≡ length t.warm.steps → u.extent ≡ t.extent → u.warm ≡ t.warm
-    → u.graph ≡ record t.graph { held = t.graph.held ++ (i, j) ∷ [] } → u.orders ≡ t.orders + 1 → u.levels.items ≡ t.levels.items ++ l ∷ [] → StandsAt job t.extent (take (k + 1) path) u
+    → u.graph ≡ record t.graph { held = t.graph.held ++ (i, j) ∷ [] } → u.orders ≡ t.orders + 1 → u.levels.items ≡ t.levels.items ++ l ∷ [] → IsTrailOf job t.extent (take (k + 1) path) u
 order_entered job k path t u l i j at there is_order among few before extent warm graph orders levels = stands_more job t.extent k path t u l at is extent levels there
   where
     held : u.graph.held ≡ t.graph.held ++ (i, j) ∷ []

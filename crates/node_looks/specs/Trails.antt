@@ -7,7 +7,7 @@
 --                                   fewer at each later one, and they held the system of the choices before it; all steps hold that of all
 --   HasOnlyRows warm n rows         these rows were added to a system of none, and nothing else was done
 --   IsTrail job t                   the rows and the orders of the choices that were entered, and no others
---   StandsAt job e path t           these choices are those of the path
+--   IsTrailOf job e path t           these choices are those of the path
 --   IsEntered job e path k t how    what has become of choice k of the path: it is held, or closes a cycle of orders, or isn't held
 --   IsFollowed job e path t how     the same of all of them
 --   IsWarmed vars rows warmed       a point that meets the rows, or a contradiction of them
@@ -63,18 +63,18 @@ pub record IsTrail (job : Job) (t : Trail) : Type 0 where
   pub count : t.orders ≡ length t.graph.held
   pub few : t.orders ≤ 16 * length job.objects
 
-pub record StandsAt (job : Job) (e : ℕ) (path : List Choice) (t : Trail) : Type 0 where
+pub record IsTrailOf (job : Job) (e : ℕ) (path : List Choice) (t : Trail) : Type 0 where
   pub trail : IsTrail job t
   pub extent : t.extent ≡ e
   pub choices : path_of t.levels.items ≡ path
 
 abbrev pub IsEntered : Job → ℕ → List Choice → ℕ → Trail → Entered → Type 0
-IsEntered job e path k t Entereds.Held = StandsAt job e (take (k + 1) path) t
+IsEntered job e path k t Entereds.Held = IsTrailOf job e (take (k + 1) path) t
 IsEntered job e path k t (Entereds.Cycle objects) = IsCycle (OnPath path) objects
 IsEntered job e path k t Entereds.Missed = Unit {0}
 
 abbrev pub IsFollowed : Job → ℕ → List Choice → Trail → Entered → Type 0
-IsFollowed job e path t Entereds.Held = StandsAt job e path t
+IsFollowed job e path t Entereds.Held = IsTrailOf job e path t
 IsFollowed job e path t (Entereds.Cycle objects) = IsCycle (OnPath path) objects
 IsFollowed job e path t Entereds.Missed = Unit {0}
 

@@ -8,7 +8,7 @@ ghost use Rattle.node_looks.specs.Candidates.{IsCandidate};
 ghost use Rattle.node_looks.specs.Questions.{IsAnswer, IsQuestion, IsZeroAnswer, IsZeroQuestion, system_of};
 ghost use Rattle.node_looks.specs.Sites.{HoldsAll, IsLookAt, IsSite, IsZeroLookAt, IsZeroSite};
 ghost use Rattle.node_looks.specs.Kept.{KeepsTrail};
-ghost use Rattle.node_looks.specs.Trails.{IsTrail, StandsAt};
+ghost use Rattle.node_looks.specs.Trails.{IsTrail, IsTrailOf};
 ghost use Rattle.seq_model.specs.Systems.{MeetsRows};
 ghost use Rattle.warm_rows.specs.Warming.{IsRowStep};
 
@@ -149,7 +149,7 @@ fn look_at_point(
     nums: &[i64],
 ) -> Result<Look, AllocError>
     requires asked { IsQuestion asked.now }
-    requires at { StandsAt asked.now.job.now asked.now.extent asked.now.path.now trail.now }
+    requires at { IsTrailOf asked.now.job.now asked.now.extent asked.now.path.now trail.now }
     requires meets { MeetsRows (system_of asked.now) den.now nums.now }
     requires many { length nums.now ≡ 2 * length asked.now.job.now.objects }
     requires small { den.now <ℤ pos (2 ^ 62) }
@@ -179,7 +179,7 @@ fn look_warm(
     counts: &mut Counts,
 ) -> Result<Look, NoMemory>
     requires asked { IsQuestion asked.now }
-    requires at { StandsAt asked.now.job.now asked.now.extent asked.now.path.now trail.old }
+    requires at { IsTrailOf asked.now.job.now asked.now.extent asked.now.path.now trail.old }
     ensures stays { IsTrail asked.now.job.now trail.new }
     ensures look { IfOk result (IsAnswer asked.now) }
     ensures zero { IsZeroQuestion asked.now → All IsRowStep trail.old.warm.steps
@@ -231,7 +231,7 @@ fn boxed(alloc: Global, trail: Trail) -> Result<Box<Trail>, AllocError>
 fn begun(alloc: Global, job: &Job, extent: u32) -> Result<Option<Box<Trail>>, NoMemory>
     requires low { 1 ≤ extent }
     requires high { extent ≤ job.now.printer.grid }
-    ensures at { IfOk result (λ made. IfSome made (λ kept. StandsAt job.now extent [] kept.value)) }
+    ensures at { IfOk result (λ made. IfSome made (λ kept. IsTrailOf job.now extent [] kept.value)) }
     ensures unmoved { IfOk result (λ made. IfSome made (λ kept. All IsRowStep kept.value.warm.steps)) }
 {
     match Trail::new(alloc, job, extent)? {

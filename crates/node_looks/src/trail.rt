@@ -5,7 +5,7 @@
 
 ghost use Rattle.std.specs.Prelude.{◌≡◌, ◌+◌, ◌-◌, ◌*◌, ◌<◌, ◌≤◌, ◌≢◌, ◌^◌, [], ◌∷◌, ◌++◌, All, length, pos, slice_get, take, Some, IfOk, IfSome, OnOk, IsTrue};
 ghost use Rattle.integer_laws.specs.Vectors.{zeros};
-ghost use Rattle.node_looks.specs.Trails.{HasOnlyRows, IsEntered, IsFollowed, IsTrail, IsWarmed, StandsAt, orders_of, path_of};
+ghost use Rattle.node_looks.specs.Trails.{HasOnlyRows, IsEntered, IsFollowed, IsTrail, IsWarmed, IsTrailOf, orders_of, path_of};
 ghost use Rattle.object_orders.specs.Orders.{IsAmong};
 ghost use Rattle.row_dictionary.specs.Scans.{IsSmallRow};
 ghost use Rattle.row_pivots.specs.Tables.{AreRowsOf};
@@ -145,7 +145,7 @@ impl Trail {
     pub fn new(alloc: Global, job: &Job, extent: u32) -> Result<Option<Trail>, NoMemory>
         requires low { 1 ≤ extent }
         requires high { extent ≤ job.now.printer.grid }
-        ensures at { IfOk result (λ made. IfSome made (StandsAt job.now extent [])) }
+        ensures at { IfOk result (λ made. IfSome made (IsTrailOf job.now extent [])) }
         ensures unmoved { IfOk result (λ made. IfSome made (λ trail. All IsRowStep trail.warm.steps)) }
     {
         let rows = system_rows(alloc, job, extent, &[])?;
@@ -216,7 +216,7 @@ impl Trail {
         i: u32,
         j: u32,
     ) -> Result<Entered, AllocError>
-        requires at { StandsAt job.now self.old.extent (take k path.now) self.old }
+        requires at { IsTrailOf job.now self.old.extent (take k path.now) self.old }
         requires choice { slice_get path.now k ≡ Some (Choices.Before i j) }
         ensures is { IfOk result (IsEntered job.now self.old.extent path.now k self.new) }
         ensures stays { OnOk result (IsTrail job.now self.new) }
@@ -243,7 +243,7 @@ impl Trail {
         contact: &Contact,
         dir: &Dir,
     ) -> Result<Entered, NoMemory>
-        requires at { StandsAt job.now self.old.extent (take k path.now) self.old }
+        requires at { IsTrailOf job.now self.old.extent (take k path.now) self.old }
         requires choice { slice_get path.now k ≡ Some (Choices.Side contact.now dir.now) }
         requires high { self.old.extent ≤ job.now.printer.grid }
         requires path { IsPath job.now path.now }
@@ -278,7 +278,7 @@ impl Trail {
         path: &[Choice],
         k: usize,
     ) -> Result<Entered, NoMemory>
-        requires at { StandsAt job.now self.old.extent (take k path.now) self.old }
+        requires at { IsTrailOf job.now self.old.extent (take k path.now) self.old }
         requires known { k < length path.now }
         requires high { self.old.extent ≤ job.now.printer.grid }
         requires path { IsPath job.now path.now }
@@ -321,8 +321,8 @@ impl Trail {
         extent: u32,
         path: &[Choice],
     ) -> Result<Warmed, NoMemory>
-        requires { StandsAt job.now extent path.now self.old }
-        ensures at { StandsAt job.now extent path.now self.new }
+        requires { IsTrailOf job.now extent path.now self.old }
+        ensures at { IsTrailOf job.now extent path.now self.new }
         ensures is { IfOk result (IsWarmed (2 * length job.now.objects) (system job.now extent path.now)) }
         ensures zero { All IsRowStep self.old.warm.steps
             → MeetsRows (system job.now extent path.now) (pos 1) (zeros (2 * length job.now.objects))

@@ -4,7 +4,7 @@ use Rattle.std.proofs.lemmas.Bool.{false≢true, cases_eq, cases_lt, eq-eqb, ne_
 use Rattle.std.proofs.lemmas.List.{get_or_past, length_push, drop_at, take_at}
 use Rattle.std.proofs.lemmas.List.Elements.{Contains-push}
 use Rattle.object_orders.specs.Orders.{IsOnce, IsOrdered, Leads, EachNext, IsSimpleCycle, ClosesCycle}
-use Rattle.order_graph.specs.Sets.{Has, IsBefore, AreNoted}
+use Rattle.order_graph.specs.Sets.{HasMember, HasBefore, AreNoted}
 use Rattle.order_graph.specs.Searches.{IsNext, IsWalk, ComesRound, IsKnown, AllKnown, LeadsOn}
 use Rattle.order_graph.proofs.Lists.{once_turned}
 use Rattle.order_graph.proofs.NoteLaws.{still_ordered}
@@ -42,14 +42,14 @@ still_known next goal i j k within known apart = ⊎_elim
     (cases_eq k i)
 
 -- an object that wasn't known gets its next one
-pub one_known : (before : List ℕ) (goal : ℕ) (next : List (Option ℕ)) (i j : ℕ) → i < length next → LeadsOn before goal next → IsBefore before i j → (IsKnown next goal i → ⊥) → IsKnown next goal j → LeadsOn before goal (set next i (Some j))
+pub one_known : (before : List ℕ) (goal : ℕ) (next : List (Option ℕ)) (i j : ℕ) → i < length next → LeadsOn before goal next → HasBefore before i j → (IsKnown next goal i → ⊥) → IsKnown next goal j → LeadsOn before goal (set next i (Some j))
 one_known before goal next i j within leads order unknown known =
     let not_goal : i ≢ goal = λ same. unknown (λ apart. absurd (apart same)) in
     let apart : j ≢ i = λ same. unknown (subst (IsKnown next goal) same known) in
     record {
       rank = raised leads.rank i j;
       stop = get_or-set_other next i goal (Some j) None (λ same. not_goal (sym same)) ∙ leads.stop;
-      order = λ a b step. ⊎_elim (λ new. subst (IsBefore before a) (sym new.1) (subst (λ k. IsBefore before k j) (sym new.0) order)) (λ old. leads.order a b old.1) (next_cases next i j a b within step);
+      order = λ a b step. ⊎_elim (λ new. subst (HasBefore before a) (sym new.1) (subst (λ k. HasBefore before k j) (sym new.0) order)) (λ old. leads.order a b old.1) (next_cases next i j a b within step);
       known = λ a b step. still_known next goal i j b within (⊎_elim (λ new. subst (IsKnown next goal) (sym new.1) known) (λ old. leads.known a b old.1) (next_cases next i j a b within step));
       nearer = λ a b step. ⊎_elim
           (λ new.
@@ -70,24 +70,24 @@ one_known before goal next i j within leads order unknown known =
 pub record IsSearch (before : List ℕ) (goal : ℕ) (next : List (Option ℕ)) (known todo : ℕ) : Type 0 where
   pub long : length next ≡ 16
   pub leads : LeadsOn before goal next
-  pub same : (k : ℕ) → Has known k ↔ IsKnown next goal k
-  pub inner : (k : ℕ) → Has todo k → Has known k
-  pub shut : (a b : ℕ) → IsBefore before a b → Has known b → (Has todo b → ⊥) → Has known a
+  pub same : (k : ℕ) → HasMember known k ↔ IsKnown next goal k
+  pub inner : (k : ℕ) → HasMember todo k → HasMember known k
+  pub shut : (a b : ℕ) → HasBefore before a b → HasMember known b → (HasMember todo b → ⊥) → HasMember known a
 
-pub at_goal : (before : List ℕ) (goal known : ℕ) → Has known goal → ((k : ℕ) → k ≢ goal → Has known k ↔ Has 0 k) → IsSearch before goal (replicate 16 None) known known
+pub at_goal : (before : List ℕ) (goal known : ℕ) → HasMember known goal → ((k : ℕ) → k ≢ goal → HasMember known k ↔ HasMember 0 k) → IsSearch before goal (replicate 16 None) known known
 at_goal before goal known has others = record {
   long = refl;
   leads = none_known before goal 16;
   same = λ k. (
     λ is apart. absurd (nothing k ((others k apart).0 is)),
-    λ known_k. ⊎_elim (λ at. subst (Has known) (sym at) has) (λ apart. absurd (false≢true (subst IsSome (empty 16 k) (known_k apart)))) (cases_eq k goal),
+    λ known_k. ⊎_elim (λ at. subst (HasMember known) (sym at) has) (λ apart. absurd (false≢true (subst IsSome (empty 16 k) (known_k apart)))) (cases_eq k goal),
   );
   inner = λ k is. is;
   shut = λ a b order is shut. absurd (shut is);
 }
 
 -- one more object a, ordered before b, is known and todo
-pub found : (before : List ℕ) (goal : ℕ) (next : List (Option ℕ)) (known todo a b : ℕ) → IsSearch before goal next known todo → a < 16 → IsBefore before a b → (Has known a → ⊥) → Has todo b → (known' todo' : ℕ) → Has known' a → ((k : ℕ) → k ≢ a → Has known' k ↔ Has known k) → Has todo' a → ((k : ℕ) → k ≢ a → Has todo' k ↔ Has todo k) → IsSearch before goal (set next a (Some b)) known' todo'
+pub found : (before : List ℕ) (goal : ℕ) (next : List (Option ℕ)) (known todo a b : ℕ) → IsSearch before goal next known todo → a < 16 → HasBefore before a b → (HasMember known a → ⊥) → HasMember todo b → (known' todo' : ℕ) → HasMember known' a → ((k : ℕ) → k ≢ a → HasMember known' k ↔ HasMember known k) → HasMember todo' a → ((k : ℕ) → k ≢ a → HasMember todo' k ↔ HasMember todo k) → IsSearch before goal (set next a (Some b)) known' todo'
 found before goal next known todo a b s fits order unknown due known' todo' in_known known_else in_todo todo_else =
     let within : a < length next = omega (arith, s.long) in
     let b_known = (s.same b).0 (s.inner b due) in
@@ -100,34 +100,34 @@ found before goal next known todo a b s fits order unknown due known' todo' in_k
             (λ other. still_known next goal a b k within ((s.same k).0 ((known_else k other).0 is)))
             (cases_eq k a),
         λ is. ⊎_elim
-            (λ at. subst (Has known') (sym at) in_known)
+            (λ at. subst (HasMember known') (sym at) in_known)
             (λ other. (known_else k other).1 ((s.same k).1 (λ apart. subst IsSome (get_or-set_other next a k (Some b) None other) (is apart))))
             (cases_eq k a),
       );
-      inner = λ k is. ⊎_elim (λ at. subst (Has known') (sym at) in_known) (λ other. (known_else k other).1 (s.inner k ((todo_else k other).0 is))) (cases_eq k a);
+      inner = λ k is. ⊎_elim (λ at. subst (HasMember known') (sym at) in_known) (λ other. (known_else k other).1 (s.inner k ((todo_else k other).0 is))) (cases_eq k a);
       shut = λ x y xy is closed. ⊎_elim
-          (λ at. absurd (closed (subst (Has todo') (sym at) in_todo)))
+          (λ at. absurd (closed (subst (HasMember todo') (sym at) in_todo)))
           (λ other.
           let x_known = s.shut x y xy ((known_else y other).0 is) (λ has. closed ((todo_else y other).1 has)) in
-          ⊎_elim (λ at. subst (Has known') (sym at) in_known) (λ else. (known_else x else).1 x_known) (cases_eq x a))
+          ⊎_elim (λ at. subst (HasMember known') (sym at) in_known) (λ else. (known_else x else).1 x_known) (cases_eq x a))
           (cases_eq y a);
     }
 
 -- all that is ordered before b is known
-pub shut_one : (before : List ℕ) (goal : ℕ) (next : List (Option ℕ)) (known todo b : ℕ) → IsSearch before goal next known todo → ((a : ℕ) → IsBefore before a b → (Has known a → ⊥) → ⊥) → (todo' : ℕ) → (Has todo' b → ⊥) → ((k : ℕ) → k ≢ b → Has todo' k ↔ Has todo k) → IsSearch before goal next known todo'
+pub shut_one : (before : List ℕ) (goal : ℕ) (next : List (Option ℕ)) (known todo b : ℕ) → IsSearch before goal next known todo → ((a : ℕ) → HasBefore before a b → (HasMember known a → ⊥) → ⊥) → (todo' : ℕ) → (HasMember todo' b → ⊥) → ((k : ℕ) → k ≢ b → HasMember todo' k ↔ HasMember todo k) → IsSearch before goal next known todo'
 shut_one before goal next known todo b s all todo' not_todo todo_else = record {
   long = s.long;
   leads = s.leads;
   same = s.same;
-  inner = λ k is. ⊎_elim (λ at. absurd (not_todo (subst (Has todo') at is))) (λ other. s.inner k ((todo_else k other).0 is)) (cases_eq k b);
+  inner = λ k is. ⊎_elim (λ at. absurd (not_todo (subst (HasMember todo') at is))) (λ other. s.inner k ((todo_else k other).0 is)) (cases_eq k b);
   shut = λ x y xy is closed. ⊎_elim
-      (λ at. has_unless known x (all x (subst (IsBefore before x) at xy)))
+      (λ at. has_unless known x (all x (subst (HasBefore before x) at xy)))
       (λ other. s.shut x y xy is (λ has. closed ((todo_else y other).1 has)))
       (cases_eq y b);
 }
 
 -- once nothing is todo, what is ordered before a known object is known
-pub all_known : (before : List ℕ) (goal : ℕ) (next : List (Option ℕ)) (known todo : ℕ) → IsSearch before goal next known todo → ((k : ℕ) → Has todo k → ⊥) → AllKnown before next goal
+pub all_known : (before : List ℕ) (goal : ℕ) (next : List (Option ℕ)) (known todo : ℕ) → IsSearch before goal next known todo → ((k : ℕ) → HasMember todo k → ⊥) → AllKnown before next goal
 all_known before goal next known todo s none a b order is = (s.same a).0 (s.shut a b order ((s.same b).1 is) (none b))
 
 -- and so is what leads to the goal

@@ -4,7 +4,7 @@ use Rattle.std.proofs.lemmas.Bool.{cases_eq, cases_lt}
 use Rattle.std.proofs.lemmas.List.{get_or_append_left, get_or_at, get_or-take, length_push, take-append-le, take_at, take_more, take-take}
 use Rattle.std.proofs.lemmas.List.Elements.{All-append, All-contains, Contains-append_left, Contains-push, Contains-push_cases}
 use Rattle.object_orders.specs.Orders.{IsAmong, AreAmong, IsOrdered}
-use Rattle.order_graph.specs.Sets.{Has, IsBefore, AreBefore, AreNoted, AreFormer}
+use Rattle.order_graph.specs.Sets.{HasMember, HasBefore, AreBefore, AreNoted, AreFormer}
 use Rattle.order_graph.proofs.SetLaws.{nothing}
 
 zero_at : (n k : ℕ) → get_or {A = ℕ} (replicate n 0) k 0 ≡ 0
@@ -14,7 +14,7 @@ zero_at (suc n) (suc k) = zero_at n k
 
 pub nothing_noted : (n : ℕ) → AreNoted [] (replicate n 0)
 nothing_noted n b a = (
-  λ has. absurd (nothing a (subst (λ s. Has s a) (zero_at n b) has)),
+  λ has. absurd (nothing a (subst (λ s. HasMember s a) (zero_at n b) has)),
   λ order. absurd (omega (arith, order.1)),
 )
 
@@ -35,19 +35,19 @@ pub still_ordered : (orders : List (ℕ × ℕ)) (i j a b : ℕ) → IsOrdered o
 still_ordered orders i j a b = Contains-append_left orders ((i, j) ∷ []) (a, b)
 
 -- the set of the second object of one more order
-one_before : (orders : List (ℕ × ℕ)) (i j old new : ℕ) → AreBefore orders j old → Has new i → ((a : ℕ) → a ≢ i → Has new a ↔ Has old a) → AreBefore (orders ++ (i, j) ∷ []) j new
+one_before : (orders : List (ℕ × ℕ)) (i j old new : ℕ) → AreBefore orders j old → HasMember new i → ((a : ℕ) → a ≢ i → HasMember new a ↔ HasMember old a) → AreBefore (orders ++ (i, j) ∷ []) j new
 one_before orders i j old new before has others a = (
   λ is. ⊎_elim
       (λ same. subst (λ k. IsOrdered (orders ++ (i, j) ∷ []) k j) (sym same) (Contains-push orders (i, j)))
       (λ apart. still_ordered orders i j a j ((before a).0 ((others a apart).0 is)))
       (cases_eq a i),
   λ order. ⊎_elim
-      (λ same. subst (Has new) (sym same) has)
+      (λ same. subst (HasMember new) (sym same) has)
       (λ apart. (others a apart).1 ((before a).1 (other_first orders i j a j apart order)))
       (cases_eq a i),
 )
 
-pub note_more : (orders : List (ℕ × ℕ)) (before : List ℕ) (i j new : ℕ) → j < length before → AreNoted orders before → Has new i → ((a : ℕ) → a ≢ i → Has new a ↔ Has (get_or before j 0) a) → AreNoted (orders ++ (i, j) ∷ []) (set before j new)
+pub note_more : (orders : List (ℕ × ℕ)) (before : List ℕ) (i j new : ℕ) → j < length before → AreNoted orders before → HasMember new i → ((a : ℕ) → a ≢ i → HasMember new a ↔ HasMember (get_or before j 0) a) → AreNoted (orders ++ (i, j) ∷ []) (set before j new)
 note_more orders before i j new within noted has others b = ⊎_elim
     (λ same.
     let set_is : get_or (set before j new) b 0 ≡ new = ap (λ k. get_or (set before j new) k 0) same ∙ get_or-set_same before j new 0 within in
@@ -111,7 +111,7 @@ last_undone orders before former n m one within fits noted are =
     note_fewer (take m orders) before o.0 o.1 (get_or former m 0) fits (subst (λ xs. AreNoted xs before) whole noted) (last_was orders former n m one within are)
 
 -- what the sets say is among the objects of the orders
-pub before_among : (n : ℕ) (orders : List (ℕ × ℕ)) (before : List ℕ) → AreAmong n orders → AreNoted orders before → (a b : ℕ) → IsBefore before a b → IsAmong n (a, b)
+pub before_among : (n : ℕ) (orders : List (ℕ × ℕ)) (before : List ℕ) → AreAmong n orders → AreNoted orders before → (a b : ℕ) → HasBefore before a b → IsAmong n (a, b)
 before_among n orders before among noted a b is = All-contains (IsAmong n) orders (a, b) among ((noted b a).0 is)
 
 pub last_among : (objects : ℕ) (orders : List (ℕ × ℕ)) (n m : ℕ) → n ≡ m + 1 → n ≤ length orders → AreAmong objects (take n orders) → IsAmong objects (get_or orders m (0, 0))

@@ -5,14 +5,14 @@ use Rattle.std.proofs.lemmas.List.{length_push, length-reverse, get_or_append_le
 use Rattle.std.proofs.lemmas.List.Elements.{Contains-get_or, All-contains_itself, All-weaker, Contains-append_left, Contains-push, Contains-push_cases}
 use Rattle.std.proofs.lemmas.Nat.Bits.{bit_at_above}
 use Rattle.object_orders.specs.Orders.{IsAmong, IsOnce, IsOrdered, EachNext, IsSimpleCycle, IsOrder, StandsBefore}
-use Rattle.order_graph.specs.Sets.{Has, IsBefore, AreNoted}
+use Rattle.order_graph.specs.Sets.{HasMember, HasBefore, AreNoted}
 use Rattle.order_graph.specs.Searches.{IsNext, IsNextBelow, IsWalk, ComesRound, IsFree, NoneFree, LeadsBack}
 use Rattle.order_graph.proofs.Lists.{room, once_push, once_reverse}
 use Rattle.order_graph.proofs.NextLaws.{no_next, next_cases}
 use Rattle.order_graph.proofs.WayLaws.{EachNext-weaker, carried, round_back}
 
 -- a set below 2 ^ 16 has no object from 16 on
-fits_below : (set k : ℕ) → set < 65536 → Has set k → k < 16
+fits_below : (set k : ℕ) → set < 65536 → HasMember set k → k < 16
 fits_below set k fits has = ⊎_elim
     (λ below. below)
     (λ above. let none = bit_at_above set 16 k fits above in absurd cc)
@@ -20,30 +20,30 @@ fits_below set k fits has = ⊎_elim
 
 -- what is left over but for `rest` isn't free
 pub record AreTried (before : List ℕ) (left rest : ℕ) : Type 0 where
-  pub inner : (k : ℕ) → Has rest k → Has left k
-  pub tried : (k : ℕ) → Has left k → (Has rest k → ⊥) → (a : ℕ) × IsBefore before a k × Has left a
+  pub inner : (k : ℕ) → HasMember rest k → HasMember left k
+  pub tried : (k : ℕ) → HasMember left k → (HasMember rest k → ⊥) → (a : ℕ) × HasBefore before a k × HasMember left a
 
 pub untried : (before : List ℕ) (left : ℕ) → AreTried before left left
 untried before left = record { inner = λ k has. has; tried = λ k has gone. absurd (gone has) }
 
-pub one_tried : (before : List ℕ) (left rest k a : ℕ) → AreTried before left rest → IsBefore before a k → Has left a → (fewer : ℕ) → (Has fewer k → ⊥) → ((j : ℕ) → j ≢ k → Has fewer j ↔ Has rest j) → AreTried before left fewer
+pub one_tried : (before : List ℕ) (left rest k a : ℕ) → AreTried before left rest → HasBefore before a k → HasMember left a → (fewer : ℕ) → (HasMember fewer k → ⊥) → ((j : ℕ) → j ≢ k → HasMember fewer j ↔ HasMember rest j) → AreTried before left fewer
 one_tried before left rest k a t order has fewer gone others = record {
-  inner = λ j is. ⊎_elim (λ same. absurd (gone (subst (Has fewer) same is))) (λ apart. t.inner j ((others j apart).0 is)) (cases_eq j k);
+  inner = λ j is. ⊎_elim (λ same. absurd (gone (subst (HasMember fewer) same is))) (λ apart. t.inner j ((others j apart).0 is)) (cases_eq j k);
   tried = λ j is out. ⊎_elim
-      (λ same. (a, subst (IsBefore before a) (sym same) order, has))
+      (λ same. (a, subst (HasBefore before a) (sym same) order, has))
       (λ apart. t.tried j is (λ in_rest. out ((others j apart).1 in_rest)))
       (cases_eq j k);
 }
 
-pub all_tried : (before : List ℕ) (left rest : ℕ) → AreTried before left rest → ((k : ℕ) → Has rest k → ⊥) → NoneFree before left
+pub all_tried : (before : List ℕ) (left rest : ℕ) → AreTried before left rest → ((k : ℕ) → HasMember rest k → ⊥) → NoneFree before left
 all_tried before left rest t none k has = t.tried k has (none k)
 
 -- what is left over but for `rest` has as its next object one that is left and ordered before it
 pub record AreLinked (before : List ℕ) (left rest : ℕ) (next : List (Option ℕ)) : Type 0 where
   pub long : length next ≡ 16
-  pub inner : (k : ℕ) → Has rest k → Has left k
-  pub step : (b a : ℕ) → IsNext next b a → IsBefore before a b × Has left a
-  pub some : (b : ℕ) → Has left b → (Has rest b → ⊥) → IsSome (get_or next b None)
+  pub inner : (k : ℕ) → HasMember rest k → HasMember left k
+  pub step : (b a : ℕ) → IsNext next b a → HasBefore before a b × HasMember left a
+  pub some : (b : ℕ) → HasMember left b → (HasMember rest b → ⊥) → IsSome (get_or next b None)
 
 pub unlinked : (before : List ℕ) (left : ℕ) → AreLinked before left left (replicate 16 None)
 unlinked before left = record {
@@ -53,7 +53,7 @@ unlinked before left = record {
   some = λ b has gone. absurd (gone has);
 }
 
-pub one_linked : (before : List ℕ) (left rest : ℕ) (next : List (Option ℕ)) (k both : ℕ) → AreLinked before left rest next → NoneFree before left → k < 16 → Has rest k → ((a : ℕ) → Has both a ↔ (IsBefore before a k × Has left a)) → (one : Option ℕ) → MatchOption one ((a : ℕ) → Has both a → ⊥) (λ a. (a < 16) × Has both a) → (fewer : ℕ) → (Has fewer k → ⊥) → ((j : ℕ) → j ≢ k → Has fewer j ↔ Has rest j) → AreLinked before left fewer (set next k one)
+pub one_linked : (before : List ℕ) (left rest : ℕ) (next : List (Option ℕ)) (k both : ℕ) → AreLinked before left rest next → NoneFree before left → k < 16 → HasMember rest k → ((a : ℕ) → HasMember both a ↔ (HasBefore before a k × HasMember left a)) → (one : Option ℕ) → MatchOption one ((a : ℕ) → HasMember both a → ⊥) (λ a. (a < 16) × HasMember both a) → (fewer : ℕ) → (HasMember fewer k → ⊥) → ((j : ℕ) → j ≢ k → HasMember fewer j ↔ HasMember rest j) → AreLinked before left fewer (set next k one)
 one_linked before left rest next k both t none_free within has are None none fewer gone others =
     let other = none_free k (t.inner k has) in
     absurd (none other.0 ((are other.0).1 (other.1, other.2)))
@@ -62,9 +62,9 @@ one_linked before left rest next k both t none_free within has are (Some a) one 
     let is_before = (are a).0 one.1 in
     record {
       long = length-set next k (Some a) ∙ t.long;
-      inner = λ j is. ⊎_elim (λ same. absurd (gone (subst (Has fewer) same is))) (λ apart. t.inner j ((others j apart).0 is)) (cases_eq j k);
+      inner = λ j is. ⊎_elim (λ same. absurd (gone (subst (HasMember fewer) same is))) (λ apart. t.inner j ((others j apart).0 is)) (cases_eq j k);
       step = λ x y is. ⊎_elim
-          (λ new. (subst (λ b. IsBefore before y b) (sym new.0) (subst (λ c. IsBefore before c k) (sym new.1) is_before.0), subst (Has left) (sym new.1) is_before.1))
+          (λ new. (subst (λ b. HasBefore before y b) (sym new.0) (subst (λ c. HasBefore before c k) (sym new.1) is_before.0), subst (HasMember left) (sym new.1) is_before.1))
           (λ old. t.step x y old.1)
           (next_cases next k a x y fits is);
       some = λ j is out. ⊎_elim
@@ -73,18 +73,18 @@ one_linked before left rest next k both t none_free within has are (Some a) one 
           (cases_eq j k);
     }
 
-pub all_linked : (before : List ℕ) (left rest : ℕ) (next : List (Option ℕ)) → AreLinked before left rest next → ((k : ℕ) → Has rest k → ⊥) → LeadsBack before left next
+pub all_linked : (before : List ℕ) (left rest : ℕ) (next : List (Option ℕ)) → AreLinked before left rest next → ((k : ℕ) → HasMember rest k → ⊥) → LeadsBack before left next
 all_linked before left rest next t none = record { step = t.step; some = λ b has. t.some b has (none b) }
 
 pub backwards_below : (before : List ℕ) (left : ℕ) (next : List (Option ℕ)) → left < 65536 → LeadsBack before left next → IsNextBelow 16 next
 backwards_below before left next fits backwards b a is = fits_below left a fits (backwards.step b a is).1
 
 -- a way over what is left doesn't end
-pub no_end : (before : List ℕ) (left : ℕ) (next : List (Option ℕ)) (start : ℕ) (way : List ℕ) → LeadsBack before left next → Has left start → IsWalk next start way → ⊥
+pub no_end : (before : List ℕ) (left : ℕ) (next : List (Option ℕ)) (start : ℕ) (way : List ℕ) → LeadsBack before left next → HasMember left start → IsWalk next start way → ⊥
 no_end before left next start way backwards has walk =
     let starts : get_or (walk.front ++ walk.last ∷ []) 0 0 ≡ start = ap (λ w. get_or w 0 0) (sym walk.whole) ∙ walk.starts in
     let steps = subst (EachNext (IsNext next)) walk.whole walk.steps in
-    let last_left = carried (IsNext next) (Has left) (λ b a is of_b. (backwards.step b a is).1) walk.front walk.last steps (subst (Has left) (sym starts) has) in
+    let last_left = carried (IsNext next) (HasMember left) (λ b a is of_b. (backwards.step b a is).1) walk.front walk.last steps (subst (HasMember left) (sym starts) has) in
     false≢true (subst IsSome walk.ends (backwards.some walk.last last_left))
 
 -- an object that isn't its own next one comes round over another
@@ -93,7 +93,7 @@ two next first [] objects whole apart round = absurd (apart round.0)
 two next first (x ∷ rest) objects whole apart round = let long : length objects ≡ length rest + 2 = ap length whole ∙ omega arith in omega arith
 
 -- what comes round backwards is a cycle, last object first
-pub cycle_from_ring : (orders : List (ℕ × ℕ)) (before : List ℕ) (left : ℕ) (next : List (Option ℕ)) → AreNoted orders before → ((a b : ℕ) → IsBefore before a b → a ≢ b) → LeadsBack before left next → (objects : List ℕ) → ComesRound next objects → IsSimpleCycle orders (reverse objects)
+pub cycle_from_ring : (orders : List (ℕ × ℕ)) (before : List ℕ) (left : ℕ) (next : List (Option ℕ)) → AreNoted orders before → ((a b : ℕ) → HasBefore before a b → a ≢ b) → LeadsBack before left next → (objects : List ℕ) → ComesRound next objects → IsSimpleCycle orders (reverse objects)
 cycle_from_ring orders before left next noted apart backwards objects ring = record {
   some = omega (arith, length-reverse objects, two next ring.first ring.rest objects ring.whole (λ is. apart ring.first ring.first (backwards.step ring.first ring.first is).0 refl) ring.round);
   once = once_reverse objects ring.once;
@@ -122,12 +122,12 @@ before_last objects k a has = record {
 
 -- where the placing stands: the objects that aren't left, each once and after all that is ordered before it
 pub record IsPlacing (n : ℕ) (before : List ℕ) (left : ℕ) (objects : List ℕ) : Type 0 where
-  pub within : (k : ℕ) → Has left k → k < n
-  pub listed : (k : ℕ) → Contains objects k ↔ ((k < n) × (Has left k → ⊥))
+  pub within : (k : ℕ) → HasMember left k → k < n
+  pub listed : (k : ℕ) → Contains objects k ↔ ((k < n) × (HasMember left k → ⊥))
   pub once : IsOnce objects
-  pub kept : (a b : ℕ) → IsBefore before a b → Contains objects b → StandsBefore objects a b
+  pub kept : (a b : ℕ) → HasBefore before a b → Contains objects b → StandsBefore objects a b
 
-pub none_placed : (n : ℕ) (before : List ℕ) (left : ℕ) → ((k : ℕ) → Has left k ↔ (k < n)) → IsPlacing n before left []
+pub none_placed : (n : ℕ) (before : List ℕ) (left : ℕ) → ((k : ℕ) → HasMember left k ↔ (k < n)) → IsPlacing n before left []
 none_placed n before left all = record {
   within = λ k has. (all k).0 has;
   listed = λ k. (λ has. absurd (omega (arith, has.1)), λ out. absurd (out.1 ((all k).1 out.0)));
@@ -136,15 +136,15 @@ none_placed n before left all = record {
 }
 
 -- a free object stands after those that are placed
-pub placed_more : (n : ℕ) (before : List ℕ) (left : ℕ) (objects : List ℕ) (k : ℕ) → ((a b : ℕ) → IsBefore before a b → IsAmong n (a, b)) → IsPlacing n before left objects → IsFree before left k → (fewer : ℕ) → (Has fewer k → ⊥) → ((j : ℕ) → j ≢ k → Has fewer j ↔ Has left j) → IsPlacing n before fewer (objects ++ k ∷ [])
+pub placed_more : (n : ℕ) (before : List ℕ) (left : ℕ) (objects : List ℕ) (k : ℕ) → ((a b : ℕ) → HasBefore before a b → IsAmong n (a, b)) → IsPlacing n before left objects → IsFree before left k → (fewer : ℕ) → (HasMember fewer k → ⊥) → ((j : ℕ) → j ≢ k → HasMember fewer j ↔ HasMember left j) → IsPlacing n before fewer (objects ++ k ∷ [])
 placed_more n before left objects k among placing free fewer gone others = record {
-  within = λ j is. ⊎_elim (λ same. absurd (gone (subst (Has fewer) same is))) (λ apart. placing.within j ((others j apart).0 is)) (cases_eq j k);
+  within = λ j is. ⊎_elim (λ same. absurd (gone (subst (HasMember fewer) same is))) (λ apart. placing.within j ((others j apart).0 is)) (cases_eq j k);
   listed = λ j. (
     λ has. ⊎_elim
         (λ old.
         let was = (placing.listed j).0 old in
-        (was.0, λ is. ⊎_elim (λ same. gone (subst (Has fewer) same is)) (λ apart. was.1 ((others j apart).0 is)) (cases_eq j k)))
-        (λ new. (subst (λ i. i < n) new (placing.within k free.left_over), λ is. gone (subst (Has fewer) (sym new) is)))
+        (was.0, λ is. ⊎_elim (λ same. gone (subst (HasMember fewer) same is)) (λ apart. was.1 ((others j apart).0 is)) (cases_eq j k)))
+        (λ new. (subst (λ i. i < n) new (placing.within k free.left_over), λ is. gone (subst (HasMember fewer) (sym new) is)))
         (Contains-push_cases objects k j has),
     λ out. ⊎_elim
         (λ same. subst (Contains (objects ++ k ∷ [])) (sym same) (Contains-push objects k))
@@ -155,13 +155,13 @@ placed_more n before left objects k among placing free fewer gone others = recor
   kept = λ a b order has. ⊎_elim
       (λ old. stands_before_push objects k a b (placing.kept a b order old))
       (λ new.
-      let to_k = subst (IsBefore before a) (sym new) order in
+      let to_k = subst (HasBefore before a) (sym new) order in
       subst (StandsBefore (objects ++ k ∷ []) a) new (before_last objects k a ((placing.listed a).1 ((among a k to_k).0, free.first a to_k))))
       (Contains-push_cases objects k b has);
 }
 
 -- once nothing is left, all stand in order
-pub order_from_placing : (n : ℕ) (orders : List (ℕ × ℕ)) (before : List ℕ) (left : ℕ) (objects : List ℕ) → AreNoted orders before → ((a b : ℕ) → IsBefore before a b → IsAmong n (a, b)) → IsPlacing n before left objects → ((k : ℕ) → Has left k → ⊥) → IsOrder n orders objects
+pub order_from_placing : (n : ℕ) (orders : List (ℕ × ℕ)) (before : List ℕ) (left : ℕ) (objects : List ℕ) → AreNoted orders before → ((a b : ℕ) → HasBefore before a b → IsAmong n (a, b)) → IsPlacing n before left objects → ((k : ℕ) → HasMember left k → ⊥) → IsOrder n orders objects
 order_from_placing n orders before left objects noted among placing none = record {
   all = λ k. (λ has. ((placing.listed k).0 has).0, λ below. (placing.listed k).1 (below, none k));
   once = placing.once;
@@ -172,7 +172,7 @@ order_from_placing n orders before left objects noted among placing none = recor
 }
 
 -- there is room for an object that is left
-pub room_left : (n : ℕ) (before : List ℕ) (left : ℕ) (objects : List ℕ) (k : ℕ) → IsPlacing n before left objects → Has left k → length objects < n
+pub room_left : (n : ℕ) (before : List ℕ) (left : ℕ) (objects : List ℕ) (k : ℕ) → IsPlacing n before left objects → HasMember left k → length objects < n
 room_left n before left objects k placing has =
     let below = All-weaker (Contains objects) (λ j. j < n) (λ j is. ((placing.listed j).0 is).0) objects (All-contains_itself objects) in
     room n objects k placing.once below (placing.within k has) (λ is. ((placing.listed k).0 is).1 has)

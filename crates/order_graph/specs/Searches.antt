@@ -16,7 +16,7 @@
 --   LeadsBack before left next          for each object that is left the next one is left and ordered before it
 use Rattle.std.specs.Prelude.{◌≡◌, ◌≢◌, ℕ, ◌<◌, List, [], ◌∷◌, ◌++◌, slice_index, slice_index_or, Option, Some, None, IsSome}
 use Rattle.object_orders.specs.Orders.{IsOnce, EachNext}
-use Rattle.order_graph.specs.Sets.{Has, IsBefore}
+use Rattle.order_graph.specs.Sets.{HasMember, HasBefore}
 use Rattle.order_graph.specs.declared.walk.Trail.{Trail}
 use Rattle.order_graph.specs.declared.walk.Trail.TheVariants as Trails
 
@@ -50,22 +50,22 @@ abbrev pub IsKnown : List (Option ℕ) → ℕ → ℕ → Type 0
 IsKnown next goal a = a ≢ goal → IsSome (slice_index_or next a None)
 
 abbrev pub AllKnown : List ℕ → List (Option ℕ) → ℕ → Type 0
-AllKnown before next goal = (a b : ℕ) → IsBefore before a b → IsKnown next goal b → IsKnown next goal a
+AllKnown before next goal = (a b : ℕ) → HasBefore before a b → IsKnown next goal b → IsKnown next goal a
 
 pub record LeadsOn (before : List ℕ) (goal : ℕ) (next : List (Option ℕ)) : Type 0 where
   pub rank : ℕ → ℕ
   pub stop : slice_index_or next goal None ≡ None
-  pub order : (a b : ℕ) → IsNext next a b → IsBefore before a b
+  pub order : (a b : ℕ) → IsNext next a b → HasBefore before a b
   pub known : (a b : ℕ) → IsNext next a b → IsKnown next goal b
   pub nearer : (a b : ℕ) → IsNext next a b → rank b < rank a
 
 pub record IsFree (before : List ℕ) (left k : ℕ) : Type 0 where
-  pub left_over : Has left k
-  pub first : (a : ℕ) → IsBefore before a k → Has left a → ⊥
+  pub left_over : HasMember left k
+  pub first : (a : ℕ) → HasBefore before a k → HasMember left a → ⊥
 
 abbrev pub NoneFree : List ℕ → ℕ → Type 0
-NoneFree before left = (k : ℕ) → Has left k → (a : ℕ) × IsBefore before a k × Has left a
+NoneFree before left = (k : ℕ) → HasMember left k → (a : ℕ) × HasBefore before a k × HasMember left a
 
 pub record LeadsBack (before : List ℕ) (left : ℕ) (next : List (Option ℕ)) : Type 0 where
-  pub step : (b a : ℕ) → IsNext next b a → IsBefore before a b × Has left a
-  pub some : (b : ℕ) → Has left b → IsSome (slice_index_or next b None)
+  pub step : (b a : ℕ) → IsNext next b a → HasBefore before a b × HasMember left a
+  pub some : (b : ℕ) → HasMember left b → IsSome (slice_index_or next b None)

@@ -1,7 +1,7 @@
 -- Orders as sets of objects, one for each object: those that are ordered before it. A set is a number of 16 bits.
 --
---   Has set k                        bit k of the set is 1
---   IsBefore before a b              the set of b has a
+--   HasMember set k                        bit k of the set is 1
+--   HasBefore before a b              the set of b has a
 --   AreBefore orders b set           the set has just what is ordered before b
 --   AreNoted orders before           each object has the set of what is ordered before it
 --   AreFormer held former            for each order its second object's set as it was before that order was held
@@ -9,14 +9,14 @@ use Rattle.std.specs.Prelude.{◌≡◌, ◌↔◌, ℕ, ◌<◌, List, length, 
 use Rattle.std.specs.Int.{bit_at}
 use Rattle.object_orders.specs.Orders.{IsOrdered}
 
-abbrev pub Has : ℕ → ℕ → Type 0
-Has set k = bit_at set k ≡ 1
+abbrev pub HasMember : ℕ → ℕ → Type 0
+HasMember set k = bit_at set k ≡ 1
 
-abbrev pub IsBefore : List ℕ → ℕ → ℕ → Type 0
-IsBefore before a b = Has (slice_index_or before b 0) a
+abbrev pub HasBefore : List ℕ → ℕ → ℕ → Type 0
+HasBefore before a b = HasMember (slice_index_or before b 0) a
 
 abbrev pub AreBefore : List (ℕ × ℕ) → ℕ → ℕ → Type 0
-AreBefore orders b set = (a : ℕ) → Has set a ↔ IsOrdered orders a b
+AreBefore orders b set = (a : ℕ) → HasMember set a ↔ IsOrdered orders a b
 
 abbrev pub AreNoted : List (ℕ × ℕ) → List ℕ → Type 0
 AreNoted orders before = (b : ℕ) → AreBefore orders b (slice_index_or before b 0)

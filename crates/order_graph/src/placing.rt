@@ -1,6 +1,6 @@
 ghost use Rattle.std.specs.Prelude.{◌≡◌, ◌≢◌, ℕ, ◌<◌, ◌≤◌, List, ◌++◌, MatchOption, MatchResult};
 ghost use Rattle.object_orders.specs.Orders.{AreAmong, IsAmong, IsOrder, IsSimpleCycle};
-ghost use Rattle.order_graph.specs.Sets.{Has, IsBefore, AreNoted};
+ghost use Rattle.order_graph.specs.Sets.{HasMember, HasBefore, AreNoted};
 ghost use Rattle.order_graph.specs.Searches.{IsFree, NoneFree, LeadsBack};
 
 use crate::answers::{Cycle, Order};
@@ -50,9 +50,9 @@ fn next_backwards(before: &[Objects; 16], left: Objects) -> [Option<u32>; 16]
 
 /// A cycle of objects that are left, where none of these is free.
 fn cycle_among(before: &[Objects; 16], left: Objects, start: u32) -> Cycle
-    requires start { Has left start }
+    requires start { HasMember left start }
     requires none { NoneFree before.now left }
-    requires apart { (a b : ℕ) → IsBefore before.now a b → a ≢ b }
+    requires apart { (a b : ℕ) → HasBefore before.now a b → a ≢ b }
     ensures { (orders : List (ℕ × ℕ)) → AreNoted orders before.now → IsSimpleCycle orders result }
 {
     match follow(&next_backwards(before, left), start) {
@@ -72,7 +72,7 @@ fn cycle_among(before: &[Objects; 16], left: Objects, start: u32) -> Cycle
 pub fn order_of(n: u32, before: &[Objects; 16]) -> Result<Order, Cycle>
     requires some { 1 ≤ n }
     requires few { n ≤ 16 }
-    requires among { (a b : ℕ) → IsBefore before.now a b → IsAmong n (a, b) }
+    requires among { (a b : ℕ) → HasBefore before.now a b → IsAmong n (a, b) }
     ensures { (orders : List (ℕ × ℕ)) → AreNoted orders before.now →
         MatchResult result (IsOrder n orders) (IsSimpleCycle orders) }
 {

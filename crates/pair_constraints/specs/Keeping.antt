@@ -1,6 +1,6 @@
 -- Contacts with what their tests need.
 --
---   IsNear s            coordinates below 2^22 in size
+--   IsSmallSpot s            coordinates below 2^22 in size
 --   FitsReach r         values below 2^46 in size
 --   IsReach S r         the greatest values of the list along the four ways of the axes, and they fit
 --   shift_at job c      the low corner of the contact's earlier object less that of its later one
@@ -16,8 +16,8 @@ use Rattle.pair_constraints.specs.Limits.{AreLimits, IsFit}
 use Rattle.pair_constraints.specs.declared.kept.Kept.{Kept}
 use Rattle.pair_constraints.specs.declared.kept.Reach.{Reach}
 
-abbrev pub IsNear : Spot → Type 0
-IsNear s = (unsigned_abs s.x < 2 ^ 22) × (unsigned_abs s.y < 2 ^ 22)
+abbrev pub IsSmallSpot : Spot → Type 0
+IsSmallSpot s = (unsigned_abs s.x < 2 ^ 22) × (unsigned_abs s.y < 2 ^ 22)
 
 pub record FitsReach (r : Reach) : Type 0 where
   pub east : unsigned_abs r.east < 2 ^ 46
@@ -41,4 +41,4 @@ pub record IsKept (job : Job) (k : Kept) : Type 0 where
   pub fit : All IsFit k.limits
   pub reach : IsReach (points_of job k.contact) k.reach
   pub shift : k.shift ≡ shift_at job k.contact
-  pub near : IsNear k.shift
+  pub near : IsSmallSpot k.shift

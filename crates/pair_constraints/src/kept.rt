@@ -2,7 +2,7 @@
 ghost use Rattle.std.specs.Prelude.{◌≡◌, ◌<◌, ◌^◌, ◌-ℤ◌, All, length, unsigned_abs, IfOk};
 ghost use Rattle.outline_laws.specs.Corners.{IsNarrow};
 ghost use Rattle.outline_laws.specs.Outlines.{AreOutlines};
-ghost use Rattle.pair_constraints.specs.Keeping.{IsKept, IsNear, IsReach, shift_at};
+ghost use Rattle.pair_constraints.specs.Keeping.{IsKept, IsSmallSpot, IsReach, shift_at};
 ghost use Rattle.pair_constraints.specs.Limits.{AreLimits, IsFit};
 ghost use Rattle.seq_model.specs.Contacts.{IsContact, difference, less, points_of};
 ghost use Rattle.seq_model.specs.Jobs.{object_at};
@@ -95,7 +95,7 @@ fn low_apart(earlier: &Spot, later: &Spot) -> Spot
     requires earlier { IsNarrow earlier.now }
     requires later { IsNarrow later.now }
     ensures value { result ≡ less earlier.now later.now }
-    ensures near { IsNear result }
+    ensures near { IsSmallSpot result }
 {
     Spot {
         x: apart(earlier.x, later.x),
@@ -106,7 +106,7 @@ fn low_apart(earlier: &Spot, later: &Spot) -> Spot
 fn shift_of(job: &Job, contact: &Contact) -> Spot
     requires contact { IsContact job.now contact.now }
     ensures value { result ≡ shift_at job.now contact.now }
-    ensures near { IsNear result }
+    ensures near { IsSmallSpot result }
 {
     low_apart(&low_of(job, contact.i), &low_of(job, contact.j))
 }

@@ -7,7 +7,7 @@ ghost use Rattle.pair_constraints.specs.Limits.{IsFit};
 ghost use Rattle.pair_constraints.specs.Laws.Covering.{is_short_of};
 ghost use Rattle.pair_constraints.specs.Maximal.{AreApart, IsOf, IsPair, contacts_of};
 ghost use Rattle.pair_constraints.specs.Laws.Nesting.{IsNested};
-ghost use Rattle.pair_constraints.specs.Laws.Settling.{Leaves, Settles};
+ghost use Rattle.pair_constraints.specs.Laws.Settling.{LeavesOut, Settles};
 ghost use Rattle.pair_constraints.specs.Laws.Parting.{AreKeptOf, IsFree, IsShort};
 ghost use Rattle.search_laws.specs.Covering.{Covers, IsCovered};
 ghost use Rattle.seq_model.specs.Contacts.{IsContact, difference, points_of};
@@ -89,7 +89,7 @@ fn leave_covered(kept: &mut Vec<Kept>, job: &Job, by: &Kept)
     requires apart { AllPairs (AreApart job.now) kept.old.items }
     ensures kept { All (AreKeptOf job.now by.now.contact.i by.now.contact.j) kept.new.items }
     ensures apart { AllPairs (AreApart job.now) kept.new.items }
-    ensures leaves { Leaves job.now by.now.contact
+    ensures leaves { LeavesOut job.now by.now.contact
         (contacts_of kept.old.items) (contacts_of kept.new.items) }
     ensures only { (k : Kept) → In k kept.new.items → In k kept.old.items }
     ensures none { All (IsFree job.now by.now.contact) kept.new.items }

@@ -1,7 +1,7 @@
 // The rows of a kept contact's sides.
 ghost use Rattle.std.specs.Prelude.{◌≡◌, ℕ, ◌<◌, ◌*◌, ◌^◌, ◌+ℤ◌, ◌-ℤ◌, ◌*ℤ◌, length, unsigned_abs, slice_index_or};
 ghost use Rattle.outline_laws.specs.Directions.{IsShort};
-ghost use Rattle.pair_constraints.specs.Keeping.{IsKept, IsNear};
+ghost use Rattle.pair_constraints.specs.Keeping.{IsKept, IsSmallSpot};
 ghost use Rattle.pair_constraints.specs.Limits.{IsFit};
 ghost use Rattle.pair_constraints.specs.declared.limits.Limit.{Limit};
 ghost use Rattle.seq_model.specs.Sides.{along};
@@ -33,7 +33,7 @@ fn near_sum(a: i64, b: i64) -> i64
 
 fn near_value(dir: &Dir, at: &Spot) -> i64
     requires dir { IsShort dir.now }
-    requires at { IsNear at.now }
+    requires at { IsSmallSpot at.now }
     ensures value { result ≡ along dir.now at.now }
     ensures size { unsigned_abs result < 2 ^ 45 }
 {
@@ -50,7 +50,7 @@ fn short_of(value: i64, most: i64) -> i64
 }
 
 fn constant_of(shift: &Spot, limit: &Limit) -> i64
-    requires shift { IsNear shift.now }
+    requires shift { IsSmallSpot shift.now }
     requires limit { IsFit limit.now }
     ensures value { result ≡ along limit.now.dir shift.now -ℤ limit.now.most }
     ensures size { unsigned_abs result < 2 ^ 47 }
@@ -59,7 +59,7 @@ fn constant_of(shift: &Spot, limit: &Limit) -> i64
 }
 
 fn row_of_limit(kept: &Kept, limit: &Limit) -> SideRow
-    requires shift { IsNear kept.now.shift }
+    requires shift { IsSmallSpot kept.now.shift }
     requires limit { IsFit limit.now }
     ensures c { result.c ≡ along limit.now.dir kept.now.shift -ℤ limit.now.most }
     ensures x { result.x ≡ limit.now.dir.x }

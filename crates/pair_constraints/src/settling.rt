@@ -1,7 +1,7 @@
 // Of the contacts of two objects some that cover them all: those whose zones and parts lie in those of another are left out.
 ghost use Rattle.std.specs.Prelude.{◌≡◌, ◌≢◌, ◌<◌, ◌++◌, ◌∷◌, [], All, length, false, IfOk, OnOk, IsTrue, ◌↔◌};
 ghost use Rattle.pair_constraints.specs.Laws.Nesting.{IsNested};
-ghost use Rattle.pair_constraints.specs.Laws.Settling.{AtZone, AtZones, IsNamed, IsThe, Leaves, Settles};
+ghost use Rattle.pair_constraints.specs.Laws.Settling.{AtZone, AtZones, IsNamed, IsThe, LeavesOut, Settles};
 ghost use Rattle.pair_constraints.specs.Maximal.{IsOf};
 ghost use Rattle.search_laws.specs.Covering.{IsCovered};
 ghost use Rattle.seq_model.specs.Contacts.{IsContact, ZonesMeet};
@@ -33,7 +33,7 @@ fn leave_inside(kept: &mut Vec<Contact>, job: &Job, nested: &Nested, contact: &C
     requires contact { IsContact job.now contact.now }
     requires kept { All (IsOf job.now contact.now.i contact.now.j) kept.old.items }
     ensures kept { All (IsOf job.now contact.now.i contact.now.j) kept.new.items }
-    ensures leaves { Leaves job.now contact.now kept.old.items kept.new.items }
+    ensures leaves { LeavesOut job.now contact.now kept.old.items kept.new.items }
 {
     let mut k = 0;
     while k < kept.len() {

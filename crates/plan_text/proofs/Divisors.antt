@@ -5,13 +5,13 @@ use Rattle.std.proofs.Math.Nat.{eq-one_of_dvd-one}
 use Rattle.std.proofs.lemmas.Nat.Gcd.{same_from_IsGcd, dvd_refl, dvd_trans}
 use Rattle.std.proofs.lemmas.List.Elements.{All-nil, All-cons, All-head, All-tail}
 use Rattle.integer_laws.specs.Divisors.{IsGcdOf, gcd_of}
-use Rattle.integer_laws.specs.Laws.Divisors.{gcd_is}
+use Rattle.integer_laws.specs.Laws.Divisors.{gcd_of_is}
 use Rattle.seq_model.specs.declared.plan.Place.{Place}
 use Rattle.plan_text.specs.PlanText.{DividesPlace}
 use Rattle.plan_text.specs.Reading.{divisor_with, divisor_of}
 
 pub gcd_of_size : (a b g : ℤ) → IsGcdOf a b g → unsigned_abs g ≡ gcd_of (unsigned_abs a) (unsigned_abs b)
-gcd_of_size a b g is = same_from_IsGcd (unsigned_abs a) (unsigned_abs b) (unsigned_abs g) _ is.is (gcd_is (unsigned_abs a) (unsigned_abs b)).1
+gcd_of_size a b g is = same_from_IsGcd (unsigned_abs a) (unsigned_abs b) (unsigned_abs g) _ is.is (gcd_of_is (unsigned_abs a) (unsigned_abs b))
 
 pub divisor_with_size : (d e g : ℤ) (p : Place) → IsGcdOf d p.x e → IsGcdOf e p.y g → unsigned_abs g ≡ divisor_with (unsigned_abs d) p
 divisor_with_size d e g p first second = gcd_of_size e p.y g second ∙ ap (λ n. gcd_of n (unsigned_abs p.y)) (gcd_of_size d p.x e first)
@@ -26,8 +26,8 @@ common : (d : ℕ) (p : Place) → Common d p
 common d p =
     let x = unsigned_abs p.x in
     let y = unsigned_abs p.y in
-    let first : IsGcd d x (gcd_of d x) = (gcd_is d x).1 in
-    let second : IsGcd (gcd_of d x) y (gcd_of (gcd_of d x) y) = (gcd_is (gcd_of d x) y).1 in
+    let first : IsGcd d x (gcd_of d x) = gcd_of_is d x in
+    let second : IsGcd (gcd_of d x) y (gcd_of (gcd_of d x) y) = gcd_of_is (gcd_of d x) y in
     record {
       before = dvd_trans (divisor_with d p) second.0 first.0;
       place = record { x = dvd_trans (divisor_with d p) second.0 first.1; y = second.1 };

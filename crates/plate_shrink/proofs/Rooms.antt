@@ -36,7 +36,7 @@ use Rattle.plan_audit.specs.Places.{IsRoomy}
 use Rattle.plate_shrink.proofs.EdgeLaws.{lies_by_narrow, lies_of_valid, lies_there, narrow_by_lies, valid_of_lies}
 use Rattle.plate_shrink.proofs.Moves.{found_again}
 use Rattle.plate_shrink.specs.Edges.{AreNarrow, IsSpanOf, edges_of, edges_with, joined, shift_of}
-use Rattle.plate_shrink.specs.Fitting.{FitsNoLower, IsNear, plan_by}
+use Rattle.plate_shrink.specs.Fitting.{FitsNoLower, IsSmallShift, plan_by}
 use Rattle.plate_shrink.specs.declared.fitting.Edges.{Edges}
 use Rattle.plate_shrink.specs.declared.fitting.Shift.{Shift}
 
@@ -111,7 +111,7 @@ spread job plan a one known span =
 
 -- a valid plan's edges lie on the plate, and so they do where they are moved to
 pub shift_near : (job : Job) (e f : ℕ) (plan : Plan) (a : Edges) → e ≤ job.printer.grid → f ≤ job.printer.grid → Valid (scene_of_job job) e plan → IsSpanOf job plan a → AreNarrow job f a
-    → IsNear (shift_of a (region_at job f).low)
+    → IsSmallShift (shift_of a (region_at job f).low)
 shift_near job e f plan a e_in f_in v span narrow =
     let here = lies_there job e plan a span v in
     let there = lies_by_narrow job f a narrow in

@@ -2,7 +2,7 @@
 --
 --   IsFitted job e fitted   its plan is found at its extent, which is at most e
 --   FitsNoLower job plan e  at no smaller extent is the plan valid, moved as a whole by whole grains
---   IsNear shift            its numbers are small
+--   IsSmallShift shift            its numbers are small
 --   place_by scale shift p  the place p over the scale, moved by whole grains
 --   plan_by shift plan      the plan with all places moved so
 use Rattle.std.specs.Prelude.{ℕ, ◌^◌, ◌<◌, ◌≤◌, ℤ, ◌+ℤ◌, ◌*ℤ◌, map, unsigned_abs}
@@ -20,7 +20,7 @@ pub record IsFitted (job : Job) (e : ℕ) (fitted : Fitted) : Type 0 where
   pub high : fitted.extent ≤ e
   pub found : IsFound job fitted.extent fitted.plan
 
-pub record IsNear (shift : Shift) : Type 0 where
+pub record IsSmallShift (shift : Shift) : Type 0 where
   pub x : unsigned_abs shift.x < 2 ^ 40
   pub y : unsigned_abs shift.y < 2 ^ 40
 

@@ -6,7 +6,7 @@ ghost use Rattle.integer_laws.specs.Quotients.{ceil, floor};
 ghost use Rattle.node_looks.specs.Looks.{IsFound};
 ghost use Rattle.plan_text.specs.PlanText.{IsPlace};
 ghost use Rattle.plate_shrink.specs.Edges.{AreNarrow, IsNarrowIn, IsNearEdges, IsSpanOf, edges_of, joined, shift_of};
-ghost use Rattle.plate_shrink.specs.Fitting.{FitsNoLower, IsFitted, IsNear, place_by, plan_by};
+ghost use Rattle.plate_shrink.specs.Fitting.{FitsNoLower, IsFitted, IsSmallShift, place_by, plan_by};
 
 use integer_laws::{difference, product, sum};
 use owned_lists::Items;
@@ -208,7 +208,7 @@ fn moved(at: i128, scale: i128, by: i128) -> i128
 fn moved_place(place: &Place, scale: &i128, shift: &Shift) -> Place
     requires place { IsPlace place.now }
     requires scale { unsigned_abs scale.now < 2 ^ 62 }
-    requires near { IsNear shift.now }
+    requires near { IsSmallShift shift.now }
     ensures { result ≡ place_by scale.now shift.now place.now }
 {
     Place {
@@ -221,7 +221,7 @@ fn moved_place(place: &Place, scale: &i128, shift: &Shift) -> Place
 fn moved_plan(alloc: Global, plan: &Plan, shift: &Shift) -> Result<Plan, AllocError>
     requires places { All IsPlace plan.now.places }
     requires scale { unsigned_abs plan.now.scale < 2 ^ 62 }
-    requires near { IsNear shift.now }
+    requires near { IsSmallShift shift.now }
     ensures { IfOk result (λ moved. moved ≡ plan_by shift.now plan.now) }
 {
     let mut places = Items::new(alloc);

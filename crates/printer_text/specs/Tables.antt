@@ -3,7 +3,7 @@
 --   Said                         what the keys of a table say
 --   nothing, about sizes         before the first key of the top table, and of a part of a printer with these sizes
 --   bound said b                 a bound, in µm
---   Says rule, value_by rule     what a value of this kind says, and how it is read
+--   SaidBy rule, value_by rule     what a value of this kind says, and how it is read
 --   with_key rule k x said       what is said, and that key k says x
 --   reading rows t said          what the keys of these rows say, after what is said already, or the first refusal
 --   said_top, said_first         what the whole top table says, and the first keys of a part
@@ -57,20 +57,20 @@ bound s value_of_from = s.from
 bound s value_of_low = s.sizes.grain *ℤ s.low
 
 -- what a value of each kind says
-abbrev pub Says : Rule → Type 0
-Says (integer low high) = ℤ
-Says (length low high lattice) = ℤ
-Says (two_lengths low high) = Spot
-Says (corners least most low high) = List Spot
-Says (name least most) = List ℕ
-Says x_or_y = Bool
-Says (tables most) = Items
+abbrev pub SaidBy : Rule → Type 0
+SaidBy (integer low high) = ℤ
+SaidBy (length low high lattice) = ℤ
+SaidBy (two_lengths low high) = Spot
+SaidBy (corners least most low high) = List Spot
+SaidBy (name least most) = List ℕ
+SaidBy x_or_y = Bool
+SaidBy (tables most) = Items
 
 abbrev pub length_by : Lattice → ℤ → ℤ → ℤ → Data → Result ℤ Cause
 length_by anywhere grain low high = length_in low high
 length_by on_grain grain low high = grains_in grain low high
 
-abbrev pub value_by : (rule : Rule) → Said → Data → Result (Says rule) Cause
+abbrev pub value_by : (rule : Rule) → Said → Data → Result (SaidBy rule) Cause
 value_by (integer low high) s = integer_in low high
 value_by (length low high lattice) s = length_by lattice s.sizes.grain (bound s low) (bound s high)
 value_by (two_lengths low high) s = pair_in s.sizes.grain (bound s low) (bound s high)
@@ -91,7 +91,7 @@ with_number key.High n s = record s { high = n }
 with_number _ n s = s
 
 -- what is said with one key more
-abbrev pub with_key : (rule : Rule) → Key → Says rule → Said → Said
+abbrev pub with_key : (rule : Rule) → Key → SaidBy rule → Said → Said
 with_key (integer low high) k n s = with_number k n s
 with_key (length low high lattice) k n s = with_number k n s
 with_key (two_lengths low high) k spot s = record s { sizes = record s.sizes { width = spot.x; depth = spot.y } }
@@ -100,7 +100,7 @@ with_key (name least most) k text s = record s { name = text }
 with_key x_or_y k along_x s = record s { bar = Some along_x }
 with_key (tables most) k listed s = record s { listed = listed }
 
-abbrev pub with_key_if : (rule : Rule) → Key → Option (Says rule) → Said → Said
+abbrev pub with_key_if : (rule : Rule) → Key → Option (SaidBy rule) → Said → Said
 with_key_if rule k (Some x) s = with_key rule k x s
 with_key_if rule k None s = s
 

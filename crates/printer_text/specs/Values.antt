@@ -8,7 +8,7 @@
 --                           the value of each kind, in its range and on its lattice
 --   key_at k rule t         the value at a key of the table, by a rule; the key has to be there
 --   key_if k rule t         the same for a key that may be absent
---   Stops r stop, StopsKey r unread    memory is wanting, or r is this refusal
+--   StopsAs r stop, StopsKey r unread    memory is wanting, or r is this refusal
 use Rattle.std.specs.Prelude.{◌≡◌, ℕ, ℤ, pos, neg_ℤ, ◌*ℤ◌, ◌+◌, ◌++◌, Bool, true, false, ◌&&◌, ◌||◌, List, [], ◌∷◌, length, Option, Some, None, is_some, Result, Ok, Err, if◌then◌else◌, int_le, int_rem, int_div, nat_le, Float, codes}
 use Rattle.std.specs.List.{list_all}
 use Rattle.std.specs.Ordering.{int_eq}
@@ -192,9 +192,9 @@ key_if k rule t = blamed k (if_present rule (get_member (key_name k) t))
 -- ---- want of memory
 
 -- memory is wanting, or this is the cause
-abbrev pub Stops : {A : Type 0} → Result A Cause → Stop → Type 0
-Stops r stop.NoMemory = Unit {0}
-Stops r (stop.Cause why) = r ≡ Err why
+abbrev pub StopsAs : {A : Type 0} → Result A Cause → Stop → Type 0
+StopsAs r stop.NoMemory = Unit {0}
+StopsAs r (stop.Cause why) = r ≡ Err why
 
 -- memory is wanting, or this is the refusal
 abbrev pub StopsKey : {A : Type 0} → Result A Bad → Unread → Type 0

@@ -6,7 +6,7 @@ ghost use Rattle.std.specs.List.{list_all};
 ghost use Rattle.seq_model.specs.Parts.{is_name_byte};
 ghost use Rattle.seq_model.specs.declared.printer.Spot.{Spot};
 ghost use Rattle.toml.specs.View.{view, items_view};
-ghost use Rattle.printer_text.specs.Values.{within, on_lattice, millimetres, length_of, integer_in, length_in, grains_in, may_be_length, pair_of, pair_in, is_pair, are_pairs, are_tables, count, pairs_behind, corners_in, tables_in, is_name, name_in, axis_in, Stops};
+ghost use Rattle.printer_text.specs.Values.{within, on_lattice, millimetres, length_of, integer_in, length_in, grains_in, may_be_length, pair_of, pair_in, is_pair, are_pairs, are_tables, count, pairs_behind, corners_in, tables_in, is_name, name_in, axis_in, StopsAs};
 
 use crate::Key;
 use decimal_lengths::read_um;
@@ -198,7 +198,7 @@ fn pairs(
     requires { pos 1 ≤ℤ grain }
     ensures ok { IfOk result
         (λ spots. pairs_behind grain low high [] (items_view values.now) ≡ Ok spots.items) }
-    ensures err { IfErr result (Stops (pairs_behind grain low high [] (items_view values.now))) }
+    ensures err { IfErr result (StopsAs (pairs_behind grain low high [] (items_view values.now))) }
 {
     let mut spots = Vec::new(alloc);
     for value in values {
@@ -234,7 +234,7 @@ pub fn corners_in(
     requires { pos 1 ≤ℤ grain }
     ensures ok { IfOk result
         (λ spots. corners_in least most grain low high (view value.now) ≡ Ok spots.items) }
-    ensures err { IfErr result (Stops (corners_in least most grain low high (view value.now))) }
+    ensures err { IfErr result (StopsAs (corners_in least most grain low high (view value.now))) }
 {
     let Some(values) = value.as_array() else {
         return Err(Stop::Cause(Cause::Kind));

@@ -2,7 +2,7 @@ ghost use Rattle.std.specs.Prelude.{◌≡◌, ◌≢◌, ℕ, ◌<◌, ◌*◌,
 ghost use Rattle.std.specs.Int.{◌∣◌};
 ghost use Rattle.integer_laws.specs.Divisors.{IsGcdOf};
 ghost use Rattle.row_pivots.specs.Ends.{Small};
-ghost use Rattle.row_dictionary.specs.Mixing.{mixed, mixed_numbers, crossed_line, mixed_line, IsCommon, Narrow, IsNarrowMix, IsWhole, IsLowered};
+ghost use Rattle.row_dictionary.specs.Mixing.{mixed, mixed_numbers, crossed_line, mixed_line, IsCommon, Narrow, IsNarrowMix, DividesExactly, IsLowered};
 
 use crate::division::{brief, divided, is_factor, quotient_by_brief, short, short_divides};
 use crate::number::Mix;
@@ -54,7 +54,7 @@ fn lowered(x: &i64, g: &i128) -> i64
 pub fn whole_factor(p: &i64, g: &i128) -> Option<i64>
     requires p { Small p.now }
     requires g { 0 < unsigned_abs g.now }
-    ensures { (x : ℤ) → result ≡ Some x → IsWhole p.now g.now x }
+    ensures { (x : ℤ) → result ≡ Some x → DividesExactly p.now g.now x }
 {
     if !is_factor(g, p) {
         return None;
@@ -64,7 +64,7 @@ pub fn whole_factor(p: &i64, g: &i128) -> Option<i64>
 
 /// What gives the same line without a division, where the divisor divides the entry too.
 fn lowest_by(mix: &Mix, p: &i64) -> Mix
-    requires whole { IsWhole mix.now.p mix.now.g p.now }
+    requires whole { DividesExactly mix.now.p mix.now.g p.now }
     requires p { Small mix.now.p }
     requires q { Small mix.now.q }
     requires g { 0 < unsigned_abs mix.now.g }
@@ -84,7 +84,7 @@ fn lowest_by(mix: &Mix, p: &i64) -> Mix
 
 /// What gives the same line without a division, where the divisor divides what both lines are multiplied by.
 pub fn lowest(mix: &Mix, whole: &Option<i64>) -> Mix
-    requires whole { (x : ℤ) → whole.now ≡ Some x → IsWhole mix.now.p mix.now.g x }
+    requires whole { (x : ℤ) → whole.now ≡ Some x → DividesExactly mix.now.p mix.now.g x }
     requires p { Small mix.now.p }
     requires q { Small mix.now.q }
     requires g { 0 < unsigned_abs mix.now.g }

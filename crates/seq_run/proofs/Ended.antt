@@ -7,7 +7,7 @@ use Rattle.run_files.specs.Causes.{Refuses}
 use Rattle.run_lines.specs.Messages.{line_of}
 use Rattle.seq_run.specs.Printed.{Answers}
 use Rattle.seq_run.specs.Premises.{AsksTrial, HasEnough, HasFaultyPlan, HasFaultlessPlan, HasNoPlan, IsUnusable, IsUsable}
-use Rattle.seq_run.specs.Runs.{AskedEnds, Ends, IsAnswered, IsTried, TrialEnds}
+use Rattle.seq_run.specs.Runs.{AskedEnds, RunEnds, IsAnswered, IsTried, TrialEnds}
 use Rattle.seq_run.specs.Statuses.{IsOneOf, code_of, status_of}
 use Rattle.run_files.specs.Stops.{Explains, IsUntouched, WantsMemory}
 use Rattle.run_files.specs.Words.{Asks, Tries, requested}
@@ -110,7 +110,7 @@ asked-tried r a objects seed p q = apart a objects seed (sym p ∙ q)
 
 module _ (words : List (List ℕ)) (s s' : ShelfView) (e e' o o' : SinkView) where
   abbrev pub E : Status → Type 0
-  E status = Ends words s s' e e' o o' status
+  E status = RunEnds words s s' e e' o o' status
 
   abbrev A : Verdict → Type 0
   A verdict = Asks words (λ a. IsAnswered verdict a s s' e e' o o')
@@ -283,13 +283,13 @@ stop_ends a s s' e e' o (Input file c) why line = (record { file = file; cause =
 stop_ends a s s' e e' o Memory why line = ((why, line), refl)
 
 -- a trial leaves the shelf alone
-pub trial_ends : (words : List (List ℕ)) (objects seed : ℕ) (s : ShelfView) (e e' o o' : SinkView) (status : Status) → requested words ≡ Ok (Trial objects seed) → TrialEnds objects seed e e' o o' status → Ends words s s e e' o o' status
+pub trial_ends : (words : List (List ℕ)) (objects seed : ℕ) (s : ShelfView) (e e' o o' : SinkView) (status : Status) → requested words ≡ Ok (Trial objects seed) → TrialEnds objects seed e e' o o' status → RunEnds words s s e e' o o' status
 trial_ends words objects seed s e e' o o' status is t = by status t
   where
     untouched : IsUntouched s s
     untouched = record { named = refl; starts = refl; calm = refl }
 
-    by : (status : Status) → TrialEnds objects seed e e' o o' status → Ends words s s e e' o o' status
+    by : (status : Status) → TrialEnds objects seed e e' o o' status → RunEnds words s s e e' o o' status
     by (Answered verdict) x = inr (record { objects = objects; seed = seed; accepted = is; so = x.0 }, x.1, untouched)
     by WrongWords x = absurd x
     by ReadFault x = absurd x

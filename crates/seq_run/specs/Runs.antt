@@ -13,7 +13,7 @@
 --   TrialBroke objects seed o o'         status 8: `out` failed within the text of a trial
 --   IsWanting words s s' e e'            status 9: memory was wanting, and `err` took its line
 --   IsUnwritten words s s' e e' o o'     status 8: the four cases; `out` is written after `err`
---   Ends words s s' e e' o o' status     what each status says
+--   RunEnds words s s' e e' o o' status     what each status says
 use Rattle.std.specs.Prelude.{◌≡◌, ◌⊎◌, ℕ, List, Err}
 use Rattle.seq_io.specs.Taken.{BrokeIn, Wrote}
 use Rattle.seq_io.specs.Views.{ShelfView, SinkView}
@@ -118,13 +118,13 @@ IsUnwritten words s s' e e' o o' =
     ⊎ Asks words (λ a. OutBroke a s s' e e' o o')
     ⊎ (Tries words (λ objects seed. TrialBroke objects seed o o') × (e' ≡ e) × IsUntouched s s')
 
-abbrev pub Ends : List (List ℕ) → ShelfView → ShelfView → SinkView → SinkView → SinkView → SinkView → Status → Type 0
-Ends words s s' e e' o o' (Statuses.Answered verdict) = HasAnswered verdict words s s' e e' o o'
-Ends words s s' e e' o o' Statuses.WrongWords = IsMisworded words s s' e e' × (o' ≡ o)
-Ends words s s' e e' o o' Statuses.ReadFault = Asks words (λ a. IsUnreadFile a s s' e e') × (o' ≡ o)
-Ends words s s' e e' o o' Statuses.WrongFile = Asks words (λ a. IsWrongFile a s s' e e') × (o' ≡ o)
-Ends words s s' e e' o o' Statuses.WriteFault = IsUnwritten words s s' e e' o o'
-Ends words s s' e e' o o' Statuses.NoMemory = IsWanting words s s' e e' × (o' ≡ o)
+abbrev pub RunEnds : List (List ℕ) → ShelfView → ShelfView → SinkView → SinkView → SinkView → SinkView → Status → Type 0
+RunEnds words s s' e e' o o' (Statuses.Answered verdict) = HasAnswered verdict words s s' e e' o o'
+RunEnds words s s' e e' o o' Statuses.WrongWords = IsMisworded words s s' e e' × (o' ≡ o)
+RunEnds words s s' e e' o o' Statuses.ReadFault = Asks words (λ a. IsUnreadFile a s s' e e') × (o' ≡ o)
+RunEnds words s s' e e' o o' Statuses.WrongFile = Asks words (λ a. IsWrongFile a s s' e e') × (o' ≡ o)
+RunEnds words s s' e e' o o' Statuses.WriteFault = IsUnwritten words s s' e e' o o'
+RunEnds words s s' e e' o o' Statuses.NoMemory = IsWanting words s s' e e' × (o' ≡ o)
 
 -- the same of what the words ask for
 abbrev pub AskedEnds : Asked → ShelfView → ShelfView → SinkView → SinkView → SinkView → SinkView → Status → Type 0

@@ -5,7 +5,7 @@ ghost use Rattle.seq_io.specs.declared.mem_file.MemFile.{MemFile};
 ghost use Rattle.seq_run.specs.Planning.{CanWorkOn, PrintsFor};
 ghost use Rattle.seq_run.specs.Premises.{AsksTrial, HasEnough, HasFaultyPlan, HasFaultlessPlan, HasNoPlan, IsUnusable, IsUsable};
 ghost use Rattle.seq_run.specs.Printed.{Answers};
-ghost use Rattle.seq_run.specs.Runs.{AskedEnds, Ends, HasAnswered, IsMisworded, IsUnreadFile, IsUnwritten, IsWanting, IsWrongFile, RefusalEnds, TrialEnds};
+ghost use Rattle.seq_run.specs.Runs.{AskedEnds, RunEnds, HasAnswered, IsMisworded, IsUnreadFile, IsUnwritten, IsWanting, IsWrongFile, RefusalEnds, TrialEnds};
 ghost use Rattle.seq_run.specs.Statuses.{IsOneOf};
 ghost use Rattle.seq_run.specs.declared.status.Verdict.{Verdict};
 ghost use Rattle.seq_words.specs.Usages.{texts};
@@ -122,7 +122,7 @@ fn end<S: Shelf, O: Sink, E: Sink>(
     out: &mut O,
     err: &mut E,
 ) -> Status
-    ensures { Ends (texts words.now.items) (S.shows shelf.old) (S.shows shelf.new)
+    ensures { RunEnds (texts words.now.items) (S.shows shelf.old) (S.shows shelf.new)
         (E.shows err.old) (E.shows err.new) (O.shows out.old) (O.shows out.new) result }
 {
     match read_request(alloc, words) {

@@ -17,12 +17,12 @@ due [] = []
 due (o ∷ openings) = replicate o.left o.depth ++ due openings
 
 -- the line of a fault is one that a vector can count
-abbrev pub IsNear : Fault → Type 0
-IsNear (faults.Stopped k stop) = k < 2 ^ 63
-IsNear (faults.Deep k) = k < 2 ^ 63
-IsNear (faults.After k) = k < 2 ^ 63
-IsNear faults.Unended = Unit {0}
-IsNear faults.NoMemory = Unit {0}
+abbrev pub IsNearFault : Fault → Type 0
+IsNearFault (faults.Stopped k stop) = k < 2 ^ 63
+IsNearFault (faults.Deep k) = k < 2 ^ 63
+IsNearFault (faults.After k) = k < 2 ^ 63
+IsNearFault faults.Unended = Unit {0}
+IsNearFault faults.NoMemory = Unit {0}
 
 pub fills_more : (most : ℕ) (nodes : List Node) (node : Node) (todo left : List ℕ) (d : ℕ) → Fills most todo nodes (d ∷ left) → d ≤ most → Fills most todo (nodes ++ node ∷ []) (replicate (arity node) (d + 1) ++ left)
 fills_more most [] node todo left d f h = subst (λ t. Fills most t (node ∷ []) (replicate (arity node) (d + 1) ++ left)) (sym f) (h, refl)

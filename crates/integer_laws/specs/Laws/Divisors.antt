@@ -1,7 +1,7 @@
 -- Greatest common divisors. `d ∣ n` and `IsGcd a b g` are std's, of natural numbers; a signed number goes in by its size, `unsigned_abs`.
 --
---
---   gcd_is               there is a greatest common divisor
+--   gcd_of_is            gcd_of is the greatest common divisor
+--   gcd_is               there is one
 --   gcd_mul              what divides two multiples a * x and b * x divides that of the greatest common divisor
 --   gauss                a number that divides a product, and is coprime to one factor, divides the other
 --   gcd_positive         it is 0 only of two zeros
@@ -44,8 +44,11 @@ euclid (suc steps) a (suc b) h =
     let r = euclid steps (suc b) (a % suc b) (omega (arith, mod-lt a {m = suc b} (omega arith))) in
     record { is = IsGcd-from_mod a (suc b) (gcd_within steps (suc b) (a % suc b)) r.is; multiples = λ c x h k. r.multiples c x k (rest_divides a (suc b) c x h k) }
 
+pub gcd_of_is : (a b : ℕ) → IsGcd a b (gcd_of a b)
+gcd_of_is a b = (euclid b a b (le_refl b)).is
+
 pub gcd_is : (a b : ℕ) → (g : ℕ) × IsGcd a b g
-gcd_is a b = (gcd_of a b, (euclid b a b (le_refl b)).is)
+gcd_is a b = (gcd_of a b, gcd_of_is a b)
 
 pub gcd_mul : (a b g c x : ℕ) → IsGcd a b g → c ∣ a * x → c ∣ b * x → c ∣ g * x
 gcd_mul a b g c x is h k =

@@ -19,7 +19,7 @@ use Rattle.seq_model.specs.declared.mesh.Facet.{Facet}
 use Rattle.seq_model.specs.declared.mesh.Point3.{Point3}
 use Rattle.seq_model.specs.Bands.{vertices, heights, least_z, height_of, band_count}
 use Rattle.integer_laws.specs.Extremes.{least, greatest}
-use Rattle.mesh_slices.specs.Cover.{SpacePoint, three, IsOn, HasBand}
+use Rattle.mesh_slices.specs.Cover.{SpacePoint, three, LiesOn, HasBand}
 use Rattle.mesh_slices.specs.Laws.CoveringSpots.{in_flat}
 
 -- ---- the heights of a mesh
@@ -41,7 +41,7 @@ positive h = omega (arith, ints)
 nonneg : {n : ℤ} → pos 1 ≤ℤ n → pos 0 ≤ℤ n
 nonneg h = omega (arith, ints)
 
-mean_from : (low : ℤ) (f : Facet) (q : SpacePoint) → ((p : Point3) → In p (three f) → low ≤ℤ p.z) → IsOn f q → (low *ℤ q.d) ≤ℤ q.z
+mean_from : (low : ℤ) (f : Facet) (q : SpacePoint) → ((p : Point3) → In p (three f) → low ≤ℤ p.z) → LiesOn f q → (low *ℤ q.d) ≤ℤ q.z
 mean_from low f q each on = by q.d q.z (weigh (λ p. p.z) (three f) on.w) (total (three f) on.w) (positive on.some) (nonneg on.positive) on.z (turned _ _ _ (weigh-linear (negsuc 0) (pos 0) (λ (p : Point3). p.z) (λ (p : Point3). p.z) (three f) on.w) (weigh_at_most (λ (p : Point3). negsuc 0 *ℤ p.z +ℤ pos 0 *ℤ p.z) (negsuc 0 *ℤ low) (three f) on.w on.weights (λ p i. below p.z (each p i))))
   where
     below : (z : ℤ) → low ≤ℤ z → (negsuc 0 *ℤ z +ℤ pos 0 *ℤ z) ≤ℤ (negsuc 0 *ℤ low)
@@ -56,7 +56,7 @@ mean_from low f q each on = by q.d q.z (weigh (λ p. p.z) (three f) on.w) (total
     by : (d z h t : ℤ) → pos 0 <ℤ t → pos 0 ≤ℤ d → d *ℤ h ≡ z *ℤ t → (low *ℤ t) ≤ℤ h → (low *ℤ d) ≤ℤ z
     by d z h t p k e above = cancel_le t p (le_from (add_le (mul_le d k above) (le_of_same e)) (simp expand (omega (arith, ints))))
 
-mean_to : (high : ℤ) (f : Facet) (q : SpacePoint) → ((p : Point3) → In p (three f) → p.z ≤ℤ high) → IsOn f q → q.z ≤ℤ (high *ℤ q.d)
+mean_to : (high : ℤ) (f : Facet) (q : SpacePoint) → ((p : Point3) → In p (three f) → p.z ≤ℤ high) → LiesOn f q → q.z ≤ℤ (high *ℤ q.d)
 mean_to high f q each on = by q.d q.z (weigh (λ p. p.z) (three f) on.w) (total (three f) on.w) (positive on.some) (nonneg on.positive) on.z (weigh_at_most (λ (p : Point3). p.z) high (three f) on.w on.weights each)
   where
     by : (d z h t : ℤ) → pos 0 <ℤ t → pos 0 ≤ℤ d → d *ℤ h ≡ z *ℤ t → h ≤ℤ (high *ℤ t) → z ≤ℤ (high *ℤ d)
@@ -92,7 +92,7 @@ enough height step p =
     at_most (pos n) = omega (arith, ints)
     at_most (negsuc n) = omega (arith, ints)
 
-pub has_band : (facets : List Facet) (step : ℤ) (f : Facet) (q : SpacePoint) → pos 1 ≤ℤ step → Contains facets f → IsOn f q → HasBand facets step q
+pub has_band : (facets : List Facet) (step : ℤ) (f : Facet) (q : SpacePoint) → pos 1 ≤ℤ step → Contains facets f → LiesOn f q → HasBand facets step q
 has_band facets step f q p c on =
     let low = least_z facets in
     let top = greatest (heights facets) in

@@ -25,7 +25,7 @@ use Rattle.seq_model.specs.Bands.{vertex_in, crossing_up, crossing, crossings, f
 use Rattle.seq_model.specs.Outlines.{spots, Within}
 use Rattle.seq_model.specs.Points.{Point, at_spot}
 use Rattle.mesh_slices.specs.Agreement.{HasZonesOf}
-use Rattle.mesh_slices.specs.Cover.{SpacePoint, three, IsOn, LiesInBand, in_grains, Covers, LiesInZone, ZonesCover}
+use Rattle.mesh_slices.specs.Cover.{SpacePoint, three, LiesOn, LiesInBand, in_grains, Covers, LiesInZone, ZonesCover}
 use Rattle.mesh_slices.specs.Laws.Covering.{InCone, cone_part, cone_member, within_cone, within_within}
 use Rattle.mesh_slices.specs.Laws.CoveringSpots.{in_flat, in_spots}
 use Rattle.mesh_slices.specs.Laws.CoveringEdges.{Edge, edge, edge_back}
@@ -173,7 +173,7 @@ scaled C d x y u v w ax bx cx ay yb cy h some ex ey m =
     turned : (s d : ℤ) → s *ℤ d ≡ d *ℤ s
     turned s d = omega (arith, ints)
 
-pub point_in_slab : (low high : ℤ) (f : Facet) (q : SpacePoint) → low <ℤ high → IsOn f q → (low *ℤ q.d) ≤ℤ q.z → q.z ≤ℤ (high *ℤ q.d) → InCone (facet_corners low high f) q.x q.y q.d
+pub point_in_slab : (low high : ℤ) (f : Facet) (q : SpacePoint) → low <ℤ high → LiesOn f q → (low *ℤ q.d) ≤ℤ q.z → q.z ≤ℤ (high *ℤ q.d) → InCone (facet_corners low high f) q.x q.y q.d
 point_in_slab low high f q slab on from to = by on.w on.weights on.some on.x on.y on.z
   where
     nonneg : {n : ℤ} → pos 0 <ℤ n → pos 0 ≤ℤ n
@@ -225,7 +225,7 @@ spots_cover facets grain step margin b g h m = record { each = each }
     least : {n : ℤ} → pos 0 <ℤ n → pos 1 ≤ℤ n
     least h = omega (arith, ints)
 
-    each : (f : Facet) (q : SpacePoint) → Contains facets f → IsOn f q → LiesInBand facets step b q → Within (spots grain margin (corner_points facets step b)) (in_grains grain q)
+    each : (f : Facet) (q : SpacePoint) → Contains facets f → LiesOn f q → LiesInBand facets step b q → Within (spots grain margin (corner_points facets step b)) (in_grains grain q)
     each f q c on band =
         let from = least_z facets +ℤ step *ℤ pos b in
         let to = from +ℤ step in
@@ -245,7 +245,7 @@ zones_cover printer facets o has = record { each = each }
     at_least_one : {n : ℤ} → pos 10 ≤ℤ n → pos 1 ≤ℤ n
     at_least_one h = omega (arith, ints)
 
-    each : (b : ℕ) → b < o.bands → (f : Facet) (q : SpacePoint) → Contains facets f → IsOn f q → LiesInBand facets printer.step b q → LiesInZone o.zones b (in_grains printer.grain q)
+    each : (b : ℕ) → b < o.bands → (f : Facet) (q : SpacePoint) → Contains facets f → LiesOn f q → LiesInBand facets printer.step b q → LiesInZone o.zones b (in_grains printer.grain q)
     each b h f q c on band =
         let ranged = printer.ranged in
         let S = spots_in printer facets b in

@@ -19,7 +19,7 @@ use Rattle.outline_laws.specs.Chains.{fallen, grown, both_chains}
 use Rattle.outline_laws.specs.Laws.Vectors.{height, opposite, rising, falling, turn_round, turn_flipped}
 use Rattle.outline_laws.specs.Laws.Means.{inner_of_corners}
 use Rattle.outline_laws.specs.Laws.Polygons.{next_of, Steps, TurnsAlong, Seen, IsLeft, left_of_inner, inner_of_left}
-use Rattle.outline_laws.specs.Laws.ChainLaws.{StepsUp, Rises, Bends, LeftOf, bottom, bottom_below, bends_all, Covers, Grown, Ascends, grown_all}
+use Rattle.outline_laws.specs.Laws.ChainLaws.{StepsUp, StepsRise, Bends, LeftOf, bottom, bottom_below, bends_all, Covers, Grown, Ascends, grown_all}
 use Rattle.outline_laws.specs.Laws.Closing.{rest_of, steps_on, first_step, all_left, in_rest, sharp, Chains, corners, corners_in, walk, turns_of, last_corner}
 use Rattle.outline_laws.specs.Laws.Inside.{FanTurns, FanAfter, fan_on, fan_low, from_bottom, inside}
 use Rattle.outline_laws.specs.Laws.Turning.{LocallyLeft, about_lowest, any_three}
@@ -27,8 +27,8 @@ use Rattle.outline_laws.specs.Hulls.{Keeps}
 use Rattle.outline_laws.specs.Laws.Keeping.{segment}
 
 pub record Ready (hx hy : ℤ) (S : List Spot) (b : Spot) (lo : List Spot) (t : Spot) (hi : List Spot) : Type 0 where
-  pub low_rises : Rises hx hy b lo
-  pub high_rises : Rises (neg_ℤ hx) (neg_ℤ hy) t hi
+  pub low_rises : StepsRise hx hy b lo
+  pub high_rises : StepsRise (neg_ℤ hx) (neg_ℤ hy) t hi
   pub low_bends : Bends b lo
   pub high_bends : Bends t hi
   pub low_left : (s : Spot) → In s S → LeftOf s b lo
@@ -107,12 +107,12 @@ within_corners hx hy S a ls e us r c s i =
     inside s t D (fan_at hx hy S a ls e us r s i) (at_one S s t D i (walk S a ls e us c).1) (subst (λ u. pos 0 <ℤ turn u t (next_of D t)) (sym (last_corner a ls e us)) c.at_bottom)
 
 -- ---- any three turn left
-below_top : (hx hy : ℤ) (t : Spot) (us : List Spot) → Rises hx hy t us → (s : Spot) → In s us → height hx hy s <ℤ height hx hy t
+below_top : (hx hy : ℤ) (t : Spot) (us : List Spot) → StepsRise hx hy t us → (s : Spot) → In s us → height hx hy s <ℤ height hx hy t
 below_top hx hy t [] r s i = absurd i
 below_top hx hy t (e ∷ us) r s (inl q) = subst (λ u. height hx hy u <ℤ height hx hy t) (sym q) r.0
 below_top hx hy t (e ∷ us) r s (inr i) = let h = below_top hx hy e us r.1 s i in let k = r.0 in omega (arith, ints)
 
-above_on : (hx hy : ℤ) (o b : Spot) (cs acc : List Spot) → height hx hy o ≤ℤ height hx hy (bottom b cs) → Rises hx hy b cs → ((s : Spot) → In s acc → height hx hy o <ℤ height hx hy s)
+above_on : (hx hy : ℤ) (o b : Spot) (cs acc : List Spot) → height hx hy o ≤ℤ height hx hy (bottom b cs) → StepsRise hx hy b cs → ((s : Spot) → In s acc → height hx hy o <ℤ height hx hy s)
     → (s : Spot) → In s (rest_of b cs acc) → height hx hy o <ℤ height hx hy s
 above_on hx hy o b [] acc p r h s i = h s i
 above_on hx hy o b (a ∷ cs) acc p r h s i = above_on hx hy o a cs (b ∷ acc) p r.1 also s i
@@ -259,7 +259,7 @@ bottom_turned : (s : Spot) (ps : List Spot) → bottom (bottom s ps) (rest_of s 
 bottom_turned s [] = refl
 bottom_turned s (p ∷ ps) = bottom_rest (bottom p ps) s p ps []
 
-down : (hx hy : ℤ) (s : Spot) (ps : List Spot) → Ascends hx hy s ps → Rises (neg_ℤ hx) (neg_ℤ hy) s ps
+down : (hx hy : ℤ) (s : Spot) (ps : List Spot) → Ascends hx hy s ps → StepsRise (neg_ℤ hx) (neg_ℤ hy) s ps
 down hx hy s [] a = tt
 down hx hy s (p ∷ ps) a = (rising hx hy p s a.0, down hx hy p ps a.1)
 
@@ -282,7 +282,7 @@ topped c p (q ∷ ps) = topped (p ∷ fallen p c) q ps
 
 -- a grown chain by its parts
 record GrownAs (hx hy : ℤ) (S : List Spot) (first b : Spot) (lo : List Spot) : Type 0 where
-  pub rises : Rises hx hy b lo
+  pub rises : StepsRise hx hy b lo
   pub bends : Bends b lo
   pub covers : (s : Spot) → In s S → Covers hx hy s b lo
   pub from_first : bottom b lo ≡ first

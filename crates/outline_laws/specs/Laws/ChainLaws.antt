@@ -2,7 +2,7 @@
 -- turns left at each corner. A chain stands with its newest corner first, as b and the rest cs.
 --
 --   StepsUp P b cs      P of each step, from a corner to the next newer
---   Rises hx hy b cs    each step goes up along (hx, hy)
+--   StepsRise hx hy b cs    each step goes up along (hx, hy)
 --   Bends b cs          it turns left at each corner between; BendsOn p b cs: and at b, on the way to p
 --   LeftOf s b cs       s lies to the right of no step
 --   bottom b cs         the oldest corner
@@ -50,8 +50,8 @@ abbrev pub StepsUp : (Spot → Spot → Type 0) → Spot → List Spot → Type 
 StepsUp P b [] = Unit {0}
 StepsUp P b (a ∷ cs) = P a b × StepsUp P a cs
 
-abbrev pub Rises : ℤ → ℤ → Spot → List Spot → Type 0
-Rises hx hy b cs = StepsUp (λ a b. height hx hy a <ℤ height hx hy b) b cs
+abbrev pub StepsRise : ℤ → ℤ → Spot → List Spot → Type 0
+StepsRise hx hy b cs = StepsUp (λ a b. height hx hy a <ℤ height hx hy b) b cs
 
 -- p bends left at the first corner of a chain
 abbrev pub BendsOn : Spot → Spot → List Spot → Type 0
@@ -85,13 +85,13 @@ pub covering : (hx hy : ℤ) (p s b : Spot) (cs : List Spot) → Covers hx hy s 
 covering hx hy p s b cs v = let low = v.below in record { left = v.left; above = λ h. absurd (omega (arith, ints)); lowest = v.lowest }
 
 -- one corner c less
-pub passed : (hx hy : ℤ) (p s c b : Spot) (cs : List Spot) → height hx hy c <ℤ height hx hy p → Rises hx hy c (b ∷ cs) → turn b c p ≤ℤ pos 0 → Covering hx hy p s c (b ∷ cs) → Covering hx hy p s b cs
+pub passed : (hx hy : ℤ) (p s c b : Spot) (cs : List Spot) → height hx hy c <ℤ height hx hy p → StepsRise hx hy c (b ∷ cs) → turn b c p ≤ℤ pos 0 → Covering hx hy p s c (b ∷ cs) → Covering hx hy p s b cs
 passed hx hy p s c b cs t r h v =
     let up = r.0 in
     record { left = v.left.1; above = λ k. over hx hy b c p s up (omega (arith, ints)) (omega (arith, ints)) h v.left.0; lowest = v.lowest }
 
 -- p bends left at each corner
-pub bends_all : (hx hy : ℤ) (p b : Spot) (cs : List Spot) → height hx hy b <ℤ height hx hy p → Rises hx hy b cs → Bends b cs → BendsOn p b cs → StepsUp (λ a b. pos 0 <ℤ turn a b p) b cs
+pub bends_all : (hx hy : ℤ) (p b : Spot) (cs : List Spot) → height hx hy b <ℤ height hx hy p → StepsRise hx hy b cs → Bends b cs → BendsOn p b cs → StepsUp (λ a b. pos 0 <ℤ turn a b p) b cs
 bends_all hx hy p b [] t r h k = tt
 bends_all hx hy p b (a ∷ []) t r h k = (k, tt)
 bends_all hx hy p b (a ∷ z ∷ cs) t r h k =
@@ -105,7 +105,7 @@ weaker p b (a ∷ cs) h = let k = h.0 in (omega (arith, ints), weaker p a cs h.1
 same_left : (b p s : Spot) → s ≡ b → pos 0 ≤ℤ turn b p s
 same_left b p s e = rw e (let z = turn_start b p in omega (arith, ints))
 
-joins : (hx hy : ℤ) (p s b : Spot) (cs : List Spot) → height hx hy b <ℤ height hx hy p → Rises hx hy b cs → BendsOn p b cs → Covering hx hy p s b cs → height hx hy s ≤ℤ height hx hy b → pos 0 ≤ℤ turn b p s
+joins : (hx hy : ℤ) (p s b : Spot) (cs : List Spot) → height hx hy b <ℤ height hx hy p → StepsRise hx hy b cs → BendsOn p b cs → Covering hx hy p s b cs → height hx hy s ≤ℤ height hx hy b → pos 0 ≤ℤ turn b p s
 joins hx hy p s b [] t r k v q = either v.lowest
   where
     either : ((s ≡ b) ⊎ (height hx hy b <ℤ height hx hy s)) → pos 0 ≤ℤ turn b p s
@@ -114,7 +114,7 @@ joins hx hy p s b [] t r k v q = either v.lowest
 joins hx hy p s b (a ∷ cs) t r k v q = under hx hy a b p s r.0 t q k v.left.0
 
 -- and p is put on
-pub put_on : (hx hy : ℤ) (p s b : Spot) (cs : List Spot) → height hx hy b <ℤ height hx hy p → Rises hx hy b cs → BendsOn p b cs → height hx hy s ≤ℤ height hx hy p → Covering hx hy p s b cs → Covers hx hy s p (b ∷ cs)
+pub put_on : (hx hy : ℤ) (p s b : Spot) (cs : List Spot) → height hx hy b <ℤ height hx hy p → StepsRise hx hy b cs → BendsOn p b cs → height hx hy s ≤ℤ height hx hy p → Covering hx hy p s b cs → Covers hx hy s p (b ∷ cs)
 put_on hx hy p s b cs t r k q v =
     record {
       left = (by_lt_z (height hx hy b) (height hx hy s) v.above (joins hx hy p s b cs t r k v), v.left);
@@ -122,12 +122,12 @@ put_on hx hy p s b cs t r k q v =
       lowest = v.lowest;
     }
 
-pub bottom_below : (hx hy : ℤ) (b : Spot) (cs : List Spot) → Rises hx hy b cs → height hx hy (bottom b cs) ≤ℤ height hx hy b
+pub bottom_below : (hx hy : ℤ) (b : Spot) (cs : List Spot) → StepsRise hx hy b cs → height hx hy (bottom b cs) ≤ℤ height hx hy b
 bottom_below hx hy b [] r = omega (arith, ints)
 bottom_below hx hy b (a ∷ cs) r = let h = bottom_below hx hy a cs r.1 in let up = r.0 in omega (arith, ints)
 
 -- p itself
-pub new_one : (hx hy : ℤ) (p b : Spot) (cs : List Spot) → height hx hy b <ℤ height hx hy p → Rises hx hy b cs → Bends b cs → BendsOn p b cs → Covers hx hy p p (b ∷ cs)
+pub new_one : (hx hy : ℤ) (p b : Spot) (cs : List Spot) → height hx hy b <ℤ height hx hy p → StepsRise hx hy b cs → Bends b cs → BendsOn p b cs → Covers hx hy p p (b ∷ cs)
 new_one hx hy p b cs t r h k =
     let low = bottom_below hx hy b cs r in
     record { left = (on_edge b p, weaker p b cs (bends_all hx hy p b cs t r h k)); below = omega (arith, ints); lowest = inr (omega (arith, ints)) }
@@ -141,14 +141,14 @@ pub record Fallen (hx hy : ℤ) (p b : Spot) (cs : List Spot) : Type 0 where
   pub rest : List Spot
   pub is : fallen p (b ∷ cs) ≡ top ∷ rest
   pub up : height hx hy top <ℤ height hx hy p
-  pub rises : Rises hx hy top rest
+  pub rises : StepsRise hx hy top rest
   pub bends : Bends top rest
   pub bends_on : BendsOn p top rest
   pub covers : (s : Spot) → Covering hx hy p s b cs → Covering hx hy p s top rest
   pub same_bottom : bottom top rest ≡ bottom b cs
   pub members : (s : Spot) → In s (top ∷ rest) → In s (b ∷ cs)
 
-pub fall : (hx hy : ℤ) (p b : Spot) (cs : List Spot) → height hx hy b <ℤ height hx hy p → Rises hx hy b cs → Bends b cs → Fallen hx hy p b cs
+pub fall : (hx hy : ℤ) (p b : Spot) (cs : List Spot) → height hx hy b <ℤ height hx hy p → StepsRise hx hy b cs → Bends b cs → Fallen hx hy p b cs
 fall hx hy p b [] t r h = record { top = b; rest = []; is = refl; up = t; rises = tt; bends = tt; bends_on = tt; covers = λ s v. v; same_bottom = refl; members = λ s i. i }
 fall hx hy p b (a ∷ cs) t r h =
     let q = r.0 in
@@ -175,7 +175,7 @@ pub record Grown (hx hy : ℤ) (S : List Spot) (first : Spot) (c : List Spot) : 
   pub top : Spot
   pub rest : List Spot
   pub is : c ≡ top ∷ rest
-  pub rises : Rises hx hy top rest
+  pub rises : StepsRise hx hy top rest
   pub bends : Bends top rest
   pub covers : (s : Spot) → In s S → Covers hx hy s top rest
   pub from_first : bottom top rest ≡ first

@@ -154,7 +154,7 @@ abbrev pub walk : Option Dir → List Dir → List Dir
 walk last [] = []
 walk last (d ∷ ds) = cond (is_fresh last d) (short d ∷ walk (Some (short d)) ds) (walk last ds)
 
-pub record Walk (last : Option Dir) (ds dirs : List Dir) : Type 0 where
+pub record DirWalk (last : Option Dir) (ds dirs : List Dir) : Type 0 where
   pub each : (dir : Dir) → In dir dirs → Across ds dir × After last dir
   pub covers : (dir : Dir) → Across ds dir → After last dir → In dir dirs
   pub order : AllPairs HasLesserAngle dirs
@@ -196,7 +196,7 @@ no_earlier d e m n h l = by (is_zero e) (is_zero d) refl refl
     by false false p q = no_truth (sym h ∙ first_test e d p q ∙ is_lesser e d l)
 
 taken : (last : Option Dir) (d : Dir) (ds dirs : List Dir) → IsGoodAfter last → IsDirection d → After last d → ((e : Dir) → In e ds → comes_first e d ≡ false)
-    → Walk (Some (short d)) ds dirs → Walk last (d ∷ ds) (short d ∷ dirs)
+    → DirWalk (Some (short d)) ds dirs → DirWalk last (d ∷ ds) (short d ∷ dirs)
 taken last d ds dirs g n a up w = record { each = each; covers = covers; order = AllPairs-cons HasLesserAngle (short d) dirs (All-from_in (HasLesserAngle (short d)) dirs (λ e i. (w.each e i).1)) w.order }
   where
     r : Reduces d.x d.y (short d).x (short d).y
@@ -235,7 +235,7 @@ taken last d ds dirs g n a up w = record { each = each; covers = covers; order =
                 absurd (no_earlier d x.long n o (up x.long i)
                 (lesser_congr x.long dir d o k n (same_reduced x.long dir x.reduces) (lesser_congr_right dir (short d) d k m n l (same_turned d (short d) (same_reduced d (short d) r)))))
 
-passed : (last : Option Dir) (d : Dir) (ds dirs : List Dir) → IsGoodAfter last → (IsDirection d → After last d → ⊥) → Walk last ds dirs → Walk last (d ∷ ds) dirs
+passed : (last : Option Dir) (d : Dir) (ds dirs : List Dir) → IsGoodAfter last → (IsDirection d → After last d → ⊥) → DirWalk last ds dirs → DirWalk last (d ∷ ds) dirs
 passed last d ds dirs g never w = record { each = λ dir i. let of = w.each dir i in (wide d ds dir of.0, of.1); covers = covers; order = w.order }
   where
     covers : (dir : Dir) → Across (d ∷ ds) dir → After last dir → In dir dirs
@@ -249,13 +249,13 @@ passed last d ds dirs g never w = record { each = λ dir i. let of = w.each dir 
             absurd (never (subst IsDirection e o) (subst (After last) e (after_same last dir x.long g (reduced_direction x.long dir x.reduces) o (same_turned x.long dir (same_reduced x.long dir x.reduces)) b)))
         by (inr i) = w.covers dir (record { long = x.long; member = i; reduces = x.reduces }) b
 
-pub walk_ascends : (last : Option Dir) (ds : List Dir) → IsGoodAfter last → IsAscending ds → Walk last ds (walk last ds)
+pub walk_ascends : (last : Option Dir) (ds : List Dir) → IsGoodAfter last → IsAscending ds → DirWalk last ds (walk last ds)
 walk_ascends last [] g up = record { each = λ dir i. absurd i; covers = λ dir x b. absurd x.member; order = λ i j d p q. absurd (omega (arith, q)) }
 walk_ascends last (d ∷ ds) g up = by (is_fresh last d) refl (walk_ascends last ds g up.1) (λ n. walk_ascends (Some (short d)) ds (reduced_direction d (short d) (short_reduces d n)) up.1)
   where
-    by : (t : Bool) → is_fresh last d ≡ t → Walk last ds (walk last ds) → (IsDirection d → Walk (Some (short d)) ds (walk (Some (short d)) ds)) → Walk last (d ∷ ds) (walk last (d ∷ ds))
-    by true e over take = let of = fresh_parts last d e in subst (λ t. Walk last (d ∷ ds) (cond t (short d ∷ walk (Some (short d)) ds) (walk last ds))) (sym e) (taken last d ds _ g of.0 of.1 up.0 (take of.0))
-    by false e over take = subst (λ t. Walk last (d ∷ ds) (cond t (short d ∷ walk (Some (short d)) ds) (walk last ds))) (sym e) (passed last d ds _ g (not_fresh last d e) over)
+    by : (t : Bool) → is_fresh last d ≡ t → DirWalk last ds (walk last ds) → (IsDirection d → DirWalk (Some (short d)) ds (walk (Some (short d)) ds)) → DirWalk last (d ∷ ds) (walk last (d ∷ ds))
+    by true e over take = let of = fresh_parts last d e in subst (λ t. DirWalk last (d ∷ ds) (cond t (short d ∷ walk (Some (short d)) ds) (walk last ds))) (sym e) (taken last d ds _ g of.0 of.1 up.0 (take of.0))
+    by false e over take = subst (λ t. DirWalk last (d ∷ ds) (cond t (short d ∷ walk (Some (short d)) ds) (walk last ds))) (sym e) (passed last d ds _ g (not_fresh last d e) over)
 
 -- the walk of the sorted list
 pub walk_is : (ds es : List Dir) → IsPermutation ds es → IsSortedBy comes_first es → AllReduced ds (walk None es)
@@ -264,7 +264,7 @@ walk_is ds es p sorted = record {
   order = w.order;
 }
   where
-    w : Walk None es (walk None es)
+    w : DirWalk None es (walk None es)
     w = walk_ascends None es tt (ascending_from_sorted es sorted)
 
     back : (dir : Dir) → Across es dir → Across ds dir

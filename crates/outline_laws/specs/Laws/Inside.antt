@@ -16,7 +16,7 @@ use Rattle.outline_laws.specs.Laws.Vectors.{less, cross, corner, height, rises, 
 use Rattle.outline_laws.specs.Laws.Wachspress.{from}
 use Rattle.outline_laws.specs.Laws.Fan.{Fan, fan, mean_of}
 use Rattle.outline_laws.specs.Laws.Polygons.{last_of, next_of, Steps}
-use Rattle.outline_laws.specs.Laws.ChainLaws.{StepsUp, Rises, Bends, LeftOf, bottom, bottom_below}
+use Rattle.outline_laws.specs.Laws.ChainLaws.{StepsUp, StepsRise, Bends, LeftOf, bottom, bottom_below}
 use Rattle.outline_laws.specs.Laws.Closing.{rest_of}
 
 abbrev pub FanTurns : Spot → Spot → Spot → List Spot → Type 0
@@ -49,7 +49,7 @@ next_from hx hy o z a b p q r h k =
     weak : (n : ℤ) → pos 0 <ℤ n → pos 0 ≤ℤ n
     weak n h = omega (arith, ints)
 
-pub from_bottom : (hx hy : ℤ) (b a : Spot) (cs : List Spot) → Rises hx hy b (a ∷ cs) → Bends b (a ∷ cs) → From (bottom a cs) b (a ∷ cs)
+pub from_bottom : (hx hy : ℤ) (b a : Spot) (cs : List Spot) → StepsRise hx hy b (a ∷ cs) → Bends b (a ∷ cs) → From (bottom a cs) b (a ∷ cs)
 from_bottom hx hy b a [] r h = tt
 from_bottom hx hy b a (z ∷ []) r h = (h.0, tt)
 from_bottom hx hy b a (z ∷ y ∷ cs) r h =

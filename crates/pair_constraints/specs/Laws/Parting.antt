@@ -22,7 +22,7 @@ use Rattle.seq_model.specs.declared.job.Job.{Job}
 use Rattle.seq_model.specs.declared.tree.Contact.{Contact}
 use Rattle.pair_constraints.specs.Keeping.{IsKept}
 use Rattle.pair_constraints.specs.Maximal.{AreApart, IsOf, IsPair, contacts_of}
-use Rattle.pair_constraints.specs.Laws.Settling.{In-remove_cases, Leaves, Settles, covered_onward, in_at, settles_pushed}
+use Rattle.pair_constraints.specs.Laws.Settling.{In-remove_cases, LeavesOut, Settles, covered_onward, in_at, settles_pushed}
 use Rattle.pair_constraints.specs.declared.kept.Kept.{Kept}
 
 pub record AreKeptOf (job : Job) (i j : ℕ) (k : Kept) : Type 0 where
@@ -35,8 +35,8 @@ IsFree job by k = Covers (points_of job by) (points_of job k.contact) → ⊥
 abbrev pub IsShort : Job → Contact → Kept → Type 0
 IsShort job c k = Covers (points_of job k.contact) (points_of job c) → ⊥
 
-pub leaves_kept : (job : Job) (by : Contact) (old mid : List Kept) (k : ℕ) (d : Kept) → Leaves job by (contacts_of old) (contacts_of mid) → Covers (points_of job by) (points_of job (get_or mid k d).contact)
-    → Leaves job by (contacts_of old) (contacts_of (remove mid k))
+pub leaves_kept : (job : Job) (by : Contact) (old mid : List Kept) (k : ℕ) (d : Kept) → LeavesOut job by (contacts_of old) (contacts_of mid) → Covers (points_of job by) (points_of job (get_or mid k d).contact)
+    → LeavesOut job by (contacts_of old) (contacts_of (remove mid k))
 leaves_kept job by old mid k d leaves covers = record { cases = λ c i. by_cases c (leaves.cases c i) }
   where
     gone : (c : Contact) (x : Kept) → c ≡ x.contact → In x (remove mid k) ⊎ (x ≡ get_or mid k d) → In c (contacts_of (remove mid k)) ⊎ Covers (points_of job by) (points_of job c)
@@ -54,7 +54,7 @@ contacts-append : (kept : List Kept) (x : Kept) → contacts_of (kept ++ x ∷ [
 contacts-append [] x = refl
 contacts-append (k ∷ kept) x = cc (contacts-append kept x)
 
-pub settles_kept : (job : Job) (i j : ℕ) (x : Kept) (c : Contact) (old mid : List Kept) → x.contact ≡ c → IsOf job i j c → All (AreKeptOf job i j) old → Leaves job c (contacts_of old) (contacts_of mid)
+pub settles_kept : (job : Job) (i j : ℕ) (x : Kept) (c : Contact) (old mid : List Kept) → x.contact ≡ c → IsOf job i j c → All (AreKeptOf job i j) old → LeavesOut job c (contacts_of old) (contacts_of mid)
     → Settles job (λ d. d ≡ c) (contacts_of old) (contacts_of (mid ++ x ∷ []))
 settles_kept job i j x c old mid same of all leaves =
     subst (λ (t : List Contact). Settles job (λ d. d ≡ c) (contacts_of old) t) (sym (contacts-append mid x))
@@ -101,10 +101,10 @@ apart_pushed job x c old mid same apart only short free = all_pairs_push (AreApa
       free k d l,
     )
 
-pub settles_new : (job : Job) (x : Kept) (c : Contact) (old mid : List Kept) → x.contact ≡ c → IsContact job c → All (AreKeptOf job c.i c.j) old → Leaves job x.contact (contacts_of old) (contacts_of mid)
+pub settles_new : (job : Job) (x : Kept) (c : Contact) (old mid : List Kept) → x.contact ≡ c → IsContact job c → All (AreKeptOf job c.i c.j) old → LeavesOut job x.contact (contacts_of old) (contacts_of mid)
     → Settles job (λ d. d ≡ c) (contacts_of old) (contacts_of (mid ++ x ∷ []))
 settles_new job x c old mid same is all leaves =
-    settles_kept job c.i c.j x c old mid same (record { is = is; earlier = refl; later = refl }) all (subst (λ (t : Contact). Leaves job t (contacts_of old) (contacts_of mid)) same leaves)
+    settles_kept job c.i c.j x c old mid same (record { is = is; earlier = refl; later = refl }) all (subst (λ (t : Contact). LeavesOut job t (contacts_of old) (contacts_of mid)) same leaves)
 
 -- ---- all of two objects
 pub covered_more : (job : Job) (old new : List Contact) (c : Contact) (xs : List Contact) (k : ℕ) (d : Contact) → k < length xs → c ≡ get_or xs k d → All (IsContact job) xs → Settles job (λ x. x ≡ c) old new

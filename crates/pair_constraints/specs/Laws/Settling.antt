@@ -3,7 +3,7 @@
 --   AtZone job i zj j c       and this zone of the later one
 --   AtZones job i zi zj j c   and this zone of the earlier one
 --   Settles job P old new     the new list covers what P says, and what the old list covers
---   Leaves job by old new     what the new list has no more of the old one, this contact covers
+--   LeavesOut job by old new     what the new list has no more of the old one, this contact covers
 use Rattle.std.proofs.Common.{◌≡◌, ◌≢◌, ℕ, zero, suc, ◌+◌, ◌<◌, ◌≤◌, List, [], ◌∷◌, ◌++◌, length, get_or, remove, refl, sym, subst, ◌∙◌, arith, All, ◌⊎◌, inl, inr, ℤ, ◌≤ℤ◌}
 use Rattle.std.proofs.lemmas.Int.{ints}
 use Rattle.std.proofs.lemmas.Bool.{cases_lt}
@@ -29,7 +29,7 @@ pub record Settles (job : Job) (P : Contact → Type 0) (old new : List Contact)
   pub done : (c : Contact) → P c → IsCovered job new c
   pub onward : (c : Contact) → IsContact job c → IsCovered job old c → IsCovered job new c
 
-pub record Leaves (job : Job) (by : Contact) (old new : List Contact) : Type 0 where
+pub record LeavesOut (job : Job) (by : Contact) (old new : List Contact) : Type 0 where
   pub cases : (c : Contact) → In c old → In c new ⊎ Covers (points_of job by) (points_of job c)
 
 -- ---- steps
@@ -65,7 +65,7 @@ same_le {a} = omega (arith, ints)
 pub covered_itself : (job : Job) (kept : List Contact) (c : Contact) → IsContact job c → In c kept → IsCovered job kept c
 covered_itself job kept c is i = record { by = c; member = i; is = is; earlier = refl; later = refl; covers = λ dir side. same_le }
 
-pub settles_pushed : (job : Job) (i j : ℕ) (x : Contact) (old mid : List Contact) → IsOf job i j x → All (IsOf job i j) old → Leaves job x old mid → Settles job (λ c. c ≡ x) old (mid ++ x ∷ [])
+pub settles_pushed : (job : Job) (i j : ℕ) (x : Contact) (old mid : List Contact) → IsOf job i j x → All (IsOf job i j) old → LeavesOut job x old mid → Settles job (λ c. c ≡ x) old (mid ++ x ∷ [])
 settles_pushed job i j x old mid is all leaves = record {
   done = λ c e. subst (IsCovered job (mid ++ x ∷ [])) (sym e) (covered_itself job (mid ++ x ∷ []) x is.is (In-append_right mid (x ∷ []) x (inl refl)));
   onward = λ c isc covered. onward c isc covered (leaves.cases covered.by covered.member);
@@ -93,7 +93,7 @@ settles_pushed job i j x old mid is all leaves = record {
         }
 
 -- ---- taking away
-pub leaves_none : (job : Job) (by : Contact) (kept : List Contact) → Leaves job by kept kept
+pub leaves_none : (job : Job) (by : Contact) (kept : List Contact) → LeavesOut job by kept kept
 leaves_none job by kept = record { cases = λ c i. inl i }
 
 pub In-remove : {A : Type 0} (xs : List A) (k : ℕ) (x : A) → In x (remove xs k) → In x xs
@@ -118,7 +118,7 @@ In-remove_cases (y ∷ xs) (suc k) x d (inr i) = later (In-remove_cases xs k x d
 pub All-remove : {A : Type 0} (P : A → Type 0) (xs : List A) (k : ℕ) → All P xs → All P (remove xs k)
 All-remove P xs k all = All-from_in P (remove xs k) (λ x i. All-in P xs x all (In-remove xs k x i))
 
-pub leaves_more : (job : Job) (by : Contact) (old mid : List Contact) (k : ℕ) (d : Contact) → Leaves job by old mid → Covers (points_of job by) (points_of job (get_or mid k d)) → Leaves job by old (remove mid k)
+pub leaves_more : (job : Job) (by : Contact) (old mid : List Contact) (k : ℕ) (d : Contact) → LeavesOut job by old mid → Covers (points_of job by) (points_of job (get_or mid k d)) → LeavesOut job by old (remove mid k)
 leaves_more job by old mid k d leaves covers = record { cases = λ c i. by_cases c (leaves.cases c i) }
   where
     gone : (c : Contact) → In c (remove mid k) ⊎ (c ≡ get_or mid k d) → In c (remove mid k) ⊎ Covers (points_of job by) (points_of job c)

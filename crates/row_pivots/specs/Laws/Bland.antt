@@ -24,7 +24,7 @@ use Rattle.row_laws.specs.Laws.Independence.{vectors_of, is_in_member, from_zero
 use Rattle.row_laws.specs.Laws.Lines.{has_same, member}
 use Rattle.row_laws.specs.Laws.Pivots.{below, of_filter, free_climbs, Swaps}
 use Rattle.row_pivots.specs.Laws.Changes.{Change, Moves, Under, AllUnder, NeverTwice, FirstMove, find, weaker, rest_under, few_changes}
-use Rattle.row_pivots.specs.Laws.Values.{Values, values, says_has, has_line, free_or_basic}
+use Rattle.row_pivots.specs.Laws.Values.{FormValues, values, says_has, has_line, free_or_basic}
 use Rattle.seq_model.specs.Dictionaries.{meaning, one, combination, is_in, free_of, Form, Has}
 use Rattle.seq_model.specs.declared.row.Row.{Row}
 use Rattle.seq_model.specs.Walks.{constant, entries, Leaves, Enters, Pivots, IsWide, Follow}
@@ -35,7 +35,7 @@ pub not_basic : (count : ℕ) (basis : List ℕ) (z : ℕ) → In z (free_of cou
 not_basic count basis z i j = absurd (subst T (sym (of_filter (λ y. not (is_in basis y)) (range_with_len 0 count) z i) ∙ ap not (is_in_member basis z j)) tt)
 
 -- the value of a variable below what leaves
-low_value : (vars : ℕ) (rows : List Row) (basis : List ℕ) (f : Form vars rows basis) (v : Values vars rows basis f) (r : ℕ) → Leaves basis f.lines r
+low_value : (vars : ℕ) (rows : List Row) (basis : List ℕ) (f : Form vars rows basis) (v : FormValues vars rows basis f) (r : ℕ) → Leaves basis f.lines r
     → (y : ℕ) → y < r → y < vars + length rows → pos 0 ≤ℤ dot (meaning vars rows y) v.u
 low_value vars rows basis f v r l y h small = by (free_or_basic (vars + length rows) basis y small)
   where
@@ -56,7 +56,7 @@ low_value vars rows basis f v r l y h small = by (free_or_basic (vars + length r
         nonneg f.d (dot (meaning vars rows y) v.u) (constant k.0) (dot (one vars) v.u) (positive refl) (v.basic y k.0 k.1) sign v.positive
 
 -- the value of what leaves
-leaving_value : (vars : ℕ) (rows : List Row) (basis : List ℕ) (f : Form vars rows basis) (v : Values vars rows basis f) (r : ℕ) → Leaves basis f.lines r → dot (meaning vars rows r) v.u ≤ℤ pos 0
+leaving_value : (vars : ℕ) (rows : List Row) (basis : List ℕ) (f : Form vars rows basis) (v : FormValues vars rows basis f) (r : ℕ) → Leaves basis f.lines r → dot (meaning vars rows r) v.u ≤ℤ pos 0
 leaving_value vars rows basis f v r l = small f.d (dot (meaning vars rows r) v.u) (constant l.line) (dot (one vars) v.u) (positive refl) (v.basic r l.line l.has) l.negative v.positive
   where
     positive : f.d ≡ f.d → pos 0 <ℤ f.d
@@ -107,7 +107,7 @@ opposed vars rows a b f g r s l m enters order above =
     free : List ℕ
     free = free_of (vars + length rows) b
 
-    v : Values vars rows a f
+    v : FormValues vars rows a f
     v = values vars rows a f
 
     φ : ℕ → ℤ

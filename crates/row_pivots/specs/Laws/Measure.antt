@@ -21,7 +21,7 @@ use Rattle.std.specs.Int.{◌∣◌, IsGcd}
 use Rattle.std.specs.Prelude.{nat_eq, if◌then◌else◌}
 use lib.Dec.{T}
 use Rattle.integer_laws.specs.Divisors.{gcd_of}
-use Rattle.integer_laws.specs.Laws.Divisors.{gcd_is, exact_quotient}
+use Rattle.integer_laws.specs.Laws.Divisors.{gcd_of_is, exact_quotient}
 use Rattle.integer_laws.specs.Members.{In}
 use Rattle.integer_laws.specs.Laws.Order.{mul_positive, cancel_lt}
 use Rattle.integer_laws.specs.Laws.Ring.{expand}
@@ -56,7 +56,7 @@ line_divides g (x ∷ xs) k = by (line_divides (gcd_of g (unsigned_abs x)) xs k)
     by more = (there more, back more)
       where
         G : IsGcd g (unsigned_abs x) (gcd_of g (unsigned_abs x))
-        G = (gcd_is g (unsigned_abs x)).1
+        G = gcd_of_is g (unsigned_abs x)
 
         there : ((k ∣ line_content (gcd_of g (unsigned_abs x)) xs) ↔ ((k ∣ (gcd_of g (unsigned_abs x))) × All (λ x. k ∣ unsigned_abs x) xs)) → k ∣ line_content (gcd_of g (unsigned_abs x)) xs → (k ∣ g) × All (λ x. k ∣ unsigned_abs x) (x ∷ xs)
         there more h = let m = more.0 h in (dvd_trans k m.0 G.0, All-cons (λ x. k ∣ unsigned_abs x) x xs (dvd_trans k m.0 G.1) m.1)

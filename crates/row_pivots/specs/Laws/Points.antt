@@ -25,7 +25,7 @@ use Rattle.row_pivots.specs.Laws.Pivoting.{get_or-In, get_or-map}
 use Rattle.row_pivots.specs.Tables.{AreRowsOf}
 use Rattle.row_pivots.specs.Laws.Sorted.{line_is}
 use Rattle.row_pivots.specs.Tables.{line_or, Fresh}
-use Rattle.row_pivots.specs.Laws.Values.{Values, values, has_line, free_or_basic}
+use Rattle.row_pivots.specs.Laws.Values.{FormValues, values, has_line, free_or_basic}
 use Rattle.seq_model.specs.Dictionaries.{meaning, one, free_of, Form, Has}
 use Rattle.seq_model.specs.Systems.{row_at, no_row, row_value, MeetsRows}
 use Rattle.seq_model.specs.Walks.{constant, NothingLeaves}
@@ -73,7 +73,7 @@ point_meets vars rows basis f stop = record { positive = f.positive; coordinates
     count : ℕ
     count = vars + length rows
 
-    v : Values vars rows basis f
+    v : FormValues vars rows basis f
     v = values vars rows basis f
 
     lines : List (List ℤ)

@@ -1,6 +1,6 @@
 -- The values of a basis: a point at which all free variables are 0.
 --
---   Values vars rows basis f     a vector u, on which one is positive, each free variable vanishes, and each basic one,
+--   FormValues vars rows basis f     a vector u, on which one is positive, each free variable vanishes, and each basic one,
 --                                times d, is its constant times what one is
 --   values                       a basis that has a form has values
 --   says_has                     what a form says of the line that a basic variable has
@@ -43,7 +43,7 @@ free_or_basic count basis z h = by (true_or_false (is_in basis z))
     by (inl e) = inl (in_basis basis z e)
     by (inr e) = inr (In-filter (λ y. not (is_in basis y)) (range_with_len 0 count) z (ap not e) (In-range 0 count z (omega arith) (omega (arith, h))))
 
-pub record Values (vars : ℕ) (rows : List Row) (basis : List ℕ) (f : Form vars rows basis) : Type 0 where
+pub record FormValues (vars : ℕ) (rows : List Row) (basis : List ℕ) (f : Form vars rows basis) : Type 0 where
   pub u : List ℤ
   pub long : length u ≡ suc vars
   pub positive : pos 0 <ℤ dot (one vars) u
@@ -56,7 +56,7 @@ above (pos (suc n)) y e h z = absurd (omega (arith, ints, h))
 above (negsuc n) y e h z = omega (arith, ints, e)
 
 made : (vars : ℕ) (rows : List Row) (basis : List ℕ) (f : Form vars rows basis) (u : List ℤ) → length u ≡ suc vars → pos 0 <ℤ dot (one vars) u
-    → ((v : List ℤ) → In v (map (meaning vars rows) (free_of (vars + length rows) basis)) → dot v u ≡ pos 0) → Values vars rows basis f
+    → ((v : List ℤ) → In v (map (meaning vars rows) (free_of (vars + length rows) basis)) → dot v u ≡ pos 0) → FormValues vars rows basis f
 made vars rows basis f u long p none = record {
   u = u;
   long = long;
@@ -68,7 +68,7 @@ made vars rows basis f u long p none = record {
       ∙ combine_one line (vectors_of vars rows basis) u 0 (s.0 ∙ ap suc (sym (length-map (free_of (vars + length rows) basis) (meaning vars rows)))) (omega arith) none;
 }
 
-pub values : (vars : ℕ) (rows : List Row) (basis : List ℕ) (f : Form vars rows basis) → Values vars rows basis f
+pub values : (vars : ℕ) (rows : List Row) (basis : List ℕ) (f : Form vars rows basis) → FormValues vars rows basis f
 values vars rows basis f = by (by_lt_z (pos 0) (dot (one vars) k.u) (λ h. inl h) (λ h. inr h))
   where
     ms : List (List ℤ)
@@ -93,7 +93,7 @@ values vars rows basis f = by (by_lt_z (pos 0) (dot (one vars) k.u) (λ h. inl h
         minus : (x : ℤ) → neg_ℤ (pos 1) *ℤ x ≡ neg_ℤ x
         minus x = omega (arith, ints)
 
-    by : (pos 0 <ℤ dot (one vars) k.u) ⊎ (dot (one vars) k.u ≤ℤ pos 0) → Values vars rows basis f
+    by : (pos 0 <ℤ dot (one vars) k.u) ⊎ (dot (one vars) k.u ≤ℤ pos 0) → FormValues vars rows basis f
     by (inl p) = made vars rows basis f k.u k.long p k.none
     by (inr n) = made vars rows basis f (scale (neg_ℤ (pos 1)) k.u) (longer k.u ∙ k.long) (above (dot (one vars) k.u) _ (turned (one vars)) n zero_is) (λ v i. turned v ∙ ap neg_ℤ (k.none v i))
       where

@@ -7,7 +7,7 @@ use Rattle.search_laws.specs.Covering.{Covers}
 use Rattle.seq_model.specs.Contacts.{points_of}
 use Rattle.pair_constraints.specs.Maximal.{AreApart, contacts_of}
 use Rattle.pair_constraints.specs.Laws.Parting.{AreKeptOf, IsFree, free-remove, leaves_kept, within_more}
-use Rattle.pair_constraints.specs.Laws.Settling.{All-remove, In-remove, Leaves}
+use Rattle.pair_constraints.specs.Laws.Settling.{All-remove, In-remove, LeavesOut}
 use Rattle.pair_constraints.specs.declared.kept.Kept.{Kept}
 use Rattle.pair_constraints.proofs.maximal.leave_covered.Goals as goal
 
@@ -26,7 +26,7 @@ loop-k-preserved-then-covers c =
       within = subst (λ (xs : List Kept). k ≤ length xs) same (omega (arith, shorter));
       kept = subst (All (AreKeptOf job by.i by.j)) same (All-remove (AreKeptOf job by.i by.j) items k inv.kept);
       apart = subst (AllPairs (AreApart job)) same (all_pairs_remove (AreApart job) items k l inv.apart);
-      leaves = subst (λ (xs : List Kept). Leaves job by (contacts_of c.args.kept.now.items) (contacts_of xs)) same (leaves_kept job by c.args.kept.now.items items k c.index.result.now inv.leaves covers);
+      leaves = subst (λ (xs : List Kept). LeavesOut job by (contacts_of c.args.kept.now.items) (contacts_of xs)) same (leaves_kept job by c.args.kept.now.items items k c.index.result.now inv.leaves covers);
       only = subst (λ (xs : List Kept). (x : Kept) → In x xs → In x c.args.kept.now.items) same (λ x i. inv.only x (In-remove items k x i));
       free = subst (λ (xs : List Kept). AllWithin (IsFree job by) xs 0 k) same (free-remove job by items k l inv.free);
     }

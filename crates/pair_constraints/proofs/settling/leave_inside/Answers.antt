@@ -4,7 +4,7 @@ use Rattle.search_laws.specs.Covering.{Covers}
 use Rattle.seq_model.specs.Contacts.{points_of}
 use Rattle.seq_model.specs.declared.tree.Contact.{Contact}
 use Rattle.pair_constraints.specs.Maximal.{IsOf}
-use Rattle.pair_constraints.specs.Laws.Settling.{All-remove, Leaves, leaves_more}
+use Rattle.pair_constraints.specs.Laws.Settling.{All-remove, LeavesOut, leaves_more}
 use Rattle.pair_constraints.proofs.settling.leave_inside.Goals as goal
 
 pub loop-k-preserved-then-has_inside : goal.loop-k-preserved-then-has_inside
@@ -19,5 +19,5 @@ loop-k-preserved-then-has_inside c =
     record {
       within = subst (λ (xs : List Contact). k ≤ length xs) (sym c.remove.ensures.items) (omega (arith, shorter));
       kept = subst (All (IsOf job by.i by.j)) (sym c.remove.ensures.items) (All-remove (IsOf job by.i by.j) items k c.loop-k.invariant.kept);
-      leaves = subst (Leaves job by c.args.kept.now.items) (sym c.remove.ensures.items) (leaves_more job by c.args.kept.now.items items k c.index.result.now c.loop-k.invariant.leaves covers);
+      leaves = subst (LeavesOut job by c.args.kept.now.items) (sym c.remove.ensures.items) (leaves_more job by c.args.kept.now.items items k c.index.result.now c.loop-k.invariant.leaves covers);
     }

@@ -2,7 +2,7 @@ use Rattle.std.proofs.Common.{◌≡◌, ◌≤◌, ◌∙◌, ap, sym, subst, a
 use Rattle.plan_laws.specs.Inside.{region_at}
 use Rattle.plate_shrink.proofs.Rooms.{moved_found, narrow_there, no_lower, shift_near}
 use Rattle.plate_shrink.specs.Edges.{shift_of}
-use Rattle.plate_shrink.specs.Fitting.{IsNear}
+use Rattle.plate_shrink.specs.Fitting.{IsSmallShift}
 use Rattle.seq_model.specs.declared.plate.Region.{Region}
 use Rattle.plate_shrink.proofs.fitting.least_fitted.Goals as goal
 
@@ -16,7 +16,7 @@ moved_plan-requires-clause-near c =
     let all = c.span_of-all.result in
     let low : fit ≤ job.printer.grid = omega (arith, c.least_fit-fit.ensures.high, c.requires.to_grid) in
     let is : c.shift_to-shift.result ≡ shift_of all (region_at job fit).low = c.shift_to-shift.ensures ∙ ap (λ (r : Region). shift_of all r.low) c.region.ensures in
-    subst IsNear (sym is) (shift_near job c.args.extent fit c.args.plan all c.requires.to_grid low c.requires.found.valid c.span_of-all.ensures.span c.least_fit-fit.ensures.narrow)
+    subst IsSmallShift (sym is) (shift_near job c.args.extent fit c.args.plan all c.requires.to_grid low c.requires.found.valid c.span_of-all.ensures.span c.least_fit-fit.ensures.narrow)
 
 pub returns-clause-least : goal.returns-clause-least
 returns-clause-least c = no_lower c.args.job.now c.least_fit-fit.result c.args.plan c.span_of-all.result c.span_of-all.ensures.span c.requires.found.scale_low c.least_fit-fit.ensures.least

@@ -1,5 +1,5 @@
 use Rattle.std.proofs.Common.{◌≡◌, sym, ap, ◌∙◌, subst}
-use Rattle.row_dictionary.specs.Mixing.{IsWhole}
+use Rattle.row_dictionary.specs.Mixing.{DividesExactly}
 use Rattle.row_dictionary.specs.Tables.{mix_of}
 use Rattle.row_dictionary.specs.declared.number.Mix.{Mix}
 use Rattle.row_dictionary.proofs.Skipping.{skipped}
@@ -13,4 +13,4 @@ returns-then-only_scales c =
     skipped c.args.step.now c.args.by.now c.args.self.now c.requires.line.0 (sym (ap (λ (m : Mix). m.q) m) ∙ both.0) (sym (ap (λ (m : Mix). m.p) m) ∙ both.1 ∙ ap (λ (m : Mix). m.g) m) c.requires.g
 
 pub pivot_one-self-inside-requires-clause-whole : goal.pivot_one-self-inside-requires-clause-whole
-pivot_one-self-inside-requires-clause-whole c = λ x e. subst (λ (m : Mix). IsWhole m.p m.g x) (sym c.mix_of-mix.ensures) (c.requires.whole x e)
+pivot_one-self-inside-requires-clause-whole c = λ x e. subst (λ (m : Mix). DividesExactly m.p m.g x) (sym c.mix_of-mix.ensures) (c.requires.whole x e)
