@@ -2,6 +2,7 @@ ghost use Rattle.std.specs.Prelude.{◌≡◌, ◌+◌, ◌<◌, ◌≤◌, ◌^
 ghost use Rattle.integer_laws.specs.Vectors.{zeros};
 ghost use Rattle.row_dictionary.specs.Scans.{IsSmallRow};
 ghost use Rattle.seq_model.specs.Systems.{MeetsRows};
+ghost use Rattle.warm_rows.specs.Answering.{IsReadOff};
 ghost use Rattle.warm_rows.specs.Keeping.{Kept};
 ghost use Rattle.warm_rows.specs.Warming.{AddsRow, AddsPivots, Gives, IsRowStep, IsZeroPoint, Repairs, no_steps, rows_of};
 
@@ -143,6 +144,7 @@ impl Warm {
         ensures goes_on { AddsPivots self.old self.new }
         ensures kept { Kept self.new.vars self.new.steps self.new.table }
         ensures is { IfOk result (Repairs self.old self.new) }
+        ensures read { IfOk result (IsReadOff (rows_of self.old.steps) self.new.table) }
         ensures zero { All IsRowStep self.old.steps
             → MeetsRows (rows_of self.old.steps) (pos 1) (zeros self.old.vars)
             → IfOk result (IsZeroPoint self.old.vars) }

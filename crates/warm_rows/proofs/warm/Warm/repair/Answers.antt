@@ -1,6 +1,7 @@
 use Rattle.std.proofs.Common.{◌∙◌, pos, All, subst}
 use Rattle.integer_laws.specs.Vectors.{zeros}
 use Rattle.seq_model.specs.Systems.{MeetsRows}
+use Rattle.warm_rows.specs.Answering.{IsReadOff}
 use Rattle.warm_rows.specs.Warming.{Warmth, IsRowStep, IsZeroPoint, Repairs, rows_of}
 use Rattle.warm_rows.proofs.Repairing.{repairs, some_mults_of, zero_found}
 use Rattle.warm_rows.proofs.Walks.{held_on}
@@ -20,6 +21,11 @@ returns-clause-is c =
     let new : Warmth = record { vars = c.self.inside.vars; steps = c.walk.new.steps.items; table = c.walk.new.dictionary } in
     subst (λ (w : Warmth). Repairs w (record { vars = c.self.inside.vars; steps = c.walk.new.steps.items; table = c.walk.new.dictionary }) c.in_ok-warmed.warmed) c.self.view_is
     (repairs old new (held_on s.steps.items c.walk.new.steps.items s.dictionary c.walk.new.dictionary on) (on.vars ∙ c.self.invariant.gives.vars_are) end.walks c.in_ok-turn.turn end.ended c.in_ok-warmed.warmed c.in_ok-warmed.ensures.is c.in_ok-warmed.ensures.den)
+
+pub returns-clause-read : goal.returns-clause-read
+returns-clause-read c =
+    subst (λ (w : Warmth). IsReadOff (rows_of w.steps) c.walk.new.dictionary c.in_ok-warmed.warmed) c.self.view_is
+    (record { turn = c.in_ok-turn.turn; ended = c.in_ok-turn.ensures.end.ended; finds = c.in_ok-warmed.ensures.is })
 
 pub returns-clause-zero : goal.returns-clause-zero
 returns-clause-zero c =
