@@ -21,10 +21,9 @@ use Rattle.plan_laws.specs.Audits.{BoxOf}
 use Rattle.plan_laws.specs.Inside.{IsInside, region_at}
 use Rattle.plan_laws.specs.Laws.Audits.{box_by_in}
 use Rattle.plan_laws.specs.Laws.ObjectSpans.{object_spans}
-use Rattle.plan_laws.specs.Laws.PlanPoints.{no_place}
 use Rattle.search_laws.specs.Laws.RowSizes.{extremes_near}
 use Rattle.seq_model.specs.Bounds.{IsNearSpot}
-use Rattle.seq_model.specs.Jobs.{bands_of, object_at, scene_of_job}
+use Rattle.seq_model.specs.Jobs.{bands_of, object_at, scene_of_job, no_place}
 use Rattle.seq_model.specs.Plates.{half_left, region_of, share_of}
 use Rattle.seq_model.specs.Scenes.{Between, Valid}
 use Rattle.seq_model.specs.declared.job.Job.{Job}

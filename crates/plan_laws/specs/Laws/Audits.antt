@@ -13,7 +13,7 @@ use Rattle.model_laws.specs.Laws.Collisions.{contact_collides, collides_by_conta
 use Rattle.plan_laws.specs.Inside.{region_at, IsInside}
 use Rattle.plan_laws.specs.Laws.ObjectSpans.{object_spans}
 use Rattle.plan_laws.specs.Laws.Ordered.{only_place}
-use Rattle.seq_model.specs.Jobs.{bands_of, object_at, scene_of_job}
+use Rattle.seq_model.specs.Jobs.{bands_of, object_at, scene_of_job, no_place}
 use Rattle.seq_model.specs.Points.{place_point}
 use Rattle.seq_model.specs.Scenes.{Between, SomeSpot, LiesIn, Collides, Valid}
 use Rattle.seq_model.specs.declared.job.Job.{Job}
@@ -21,7 +21,6 @@ use Rattle.seq_model.specs.declared.plan.Place.{Place}
 use Rattle.seq_model.specs.declared.plan.Plan.{Plan}
 use Rattle.seq_model.specs.declared.plate.Region.{Region}
 use Rattle.seq_model.specs.declared.printer.Spot.{Spot}
-use Rattle.plan_laws.specs.Laws.PlanPoints.{no_place}
 
 -- ---- boxes
 low_number : (d rl l s x : ℤ) → pos 0 ≤ℤ d → l ≤ℤ s → (d *ℤ rl) ≤ℤ (d *ℤ l +ℤ x) → (d *ℤ rl) ≤ℤ (d *ℤ s +ℤ x)

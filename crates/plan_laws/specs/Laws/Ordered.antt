@@ -18,9 +18,9 @@ use Rattle.integer_laws.specs.Laws.Members.{In-from_contains, Contains-from_in, 
 use Rattle.object_orders.specs.Orders.{IsOrder, StandsBefore}
 use Rattle.plan_laws.specs.Inside.{place_at, IsInside, IsBounded}
 use Rattle.plan_laws.specs.Laws.Inside.{inside_where_bounded}
-use Rattle.plan_laws.specs.Laws.PlanPoints.{no_place, same_number, values_of, place_for, rank_for, place_again, valid_stands, on_of_plan, clear_of_plan}
+use Rattle.plan_laws.specs.Laws.PlanPoints.{same_number, values_of, place_for, rank_for, place_again, valid_stands, on_of_plan, clear_of_plan}
 use Rattle.plan_laws.specs.Ordered.{Keeps, IsClear, plan_of, AreApart, orders_of, OrderedPoint}
-use Rattle.seq_model.specs.Jobs.{scene_of_job}
+use Rattle.seq_model.specs.Jobs.{scene_of_job, no_place}
 use Rattle.seq_model.specs.Points.{Point, place_point}
 use Rattle.seq_model.specs.Scenes.{Collides, Valid}
 use Rattle.seq_model.specs.Splits.{Values, IsOn, CollidesAt}
