@@ -18,7 +18,7 @@
 use Rattle.std.specs.Prelude.{ℕ, ℤ, pos, neg_ℤ, Bool, List, [], ◌∷◌, Option, Some, None}
 use Rattle.printer_text.specs.declared.Key.{Key}
 use Rattle.printer_text.specs.declared.Key.TheVariants as key
-use Rattle.seq_limits.specs.declared.TheConstants.{FARTHEST, LEAST_GRAIN, LEAST_STEP, MOST_GRAIN, MOST_GRID, MOST_MARGIN, MOST_PLATE, MOST_REACH, MOST_STEP}
+use Rattle.seq_limits.specs.declared.TheConstants.{FARTHEST, LEAST_GRAIN, LEAST_STEP, LONGEST_NAME, MOST_CORNERS, MOST_GRAIN, MOST_GRID, MOST_LISTED_PARTS, MOST_MARGIN, MOST_PLATE, MOST_REACH, MOST_STEP}
 
 pub data Bound : Type 0 where
   um : ℤ → Bound
@@ -51,12 +51,12 @@ top_keys =
     ∷ required key.Step (length (um LEAST_STEP) (um MOST_STEP) anywhere)
     ∷ required key.Margin (length (grains (pos 1)) (grains MOST_MARGIN) on_grain)
     ∷ required key.Grid (integer (pos 1) (pos MOST_GRID))
-    ∷ optional key.Part (tables 12)
+    ∷ optional key.Part (tables MOST_LISTED_PARTS)
     ∷ []
 
 abbrev pub part_keys : List Row
 part_keys =
-    required key.Name (name 1 40)
+    required key.Name (name 1 LONGEST_NAME)
     ∷ required key.From (length (um (pos 0)) (um (pos FARTHEST)) anywhere)
     ∷ optional key.To (length value_of_from (um (pos FARTHEST)) anywhere)
     ∷ optional key.Bar x_or_y
@@ -64,7 +64,7 @@ part_keys =
 
 abbrev pub outline_keys : Option Bool → List Row
 outline_keys None =
-    required key.Corners (corners 1 32 (grains (neg_ℤ (pos MOST_REACH))) (grains (pos MOST_REACH)))
+    required key.Corners (corners 1 MOST_CORNERS (grains (neg_ℤ (pos MOST_REACH))) (grains (pos MOST_REACH)))
     ∷ []
 outline_keys (Some along_x) =
     required key.Low (length (grains (neg_ℤ (pos MOST_REACH))) (grains (pos MOST_REACH)) on_grain)

@@ -11,7 +11,7 @@ use Rattle.seq_model.specs.Parts.{IsPartName}
 use Rattle.seq_model.specs.declared.printer.Part.{Part}
 use Rattle.seq_model.specs.declared.printer.Spot.{Spot}
 use Rattle.printer_text.specs.declared.top.Sizes.{Sizes}
-use Rattle.seq_limits.specs.declared.TheConstants.{MOST_GRAIN, MOST_REACH}
+use Rattle.seq_limits.specs.declared.TheConstants.{MOST_CORNERS, MOST_GRAIN, MOST_REACH}
 
 pub record IsGrain (grain : ℤ) : Type 0 where
   pub low : pos 10 ≤ℤ grain
@@ -26,7 +26,7 @@ AreSizes s = IsPrinter s.grain s.width s.depth s.step s.margin s.grid
 
 pub record IsOutline (corners : List Spot) : Type 0 where
   pub some : 1 ≤ length corners
-  pub few : length corners ≤ 32
+  pub few : length corners ≤ MOST_CORNERS
   pub near : All (IsNearSpot MOST_REACH) corners
 
 pub record IsListedPart (part : Part) : Type 0 where

@@ -16,6 +16,7 @@ use Rattle.std.specs.Prelude.{ℕ, ℤ, pos, ◌*ℤ◌, Bool, false, ◌||◌, 
 use Rattle.std.specs.Cmp.Lexicographic.{slice_cmp}
 use Rattle.std.specs.Ordering.{nat_cmp, is_lt}
 use Rattle.std.specs.Str.{bytes_eq}
+use Rattle.seq_limits.specs.declared.TheConstants.{MOST_LISTED_PARTS}
 use Rattle.seq_model.specs.declared.printer.Spot.{Spot}
 use Rattle.toml.specs.Data.{Data, Items, no_items, Members, no_members, member}
 use Rattle.printer_text.specs.declared.Key.{Key}
@@ -106,7 +107,7 @@ with_key_if rule k None s = s
 
 -- what the whole top table says, and the first keys of a part
 abbrev pub said_top : Sizes → Option Items → Said
-said_top sizes listed = with_key_if (tables 12) key.Part listed (about sizes)
+said_top sizes listed = with_key_if (tables MOST_LISTED_PARTS) key.Part listed (about sizes)
 
 abbrev pub said_first : Sizes → List ℕ → Heights → Said
 said_first sizes text h = record (about sizes) { name = text; from = h.from; to = h.to; bar = h.bar }

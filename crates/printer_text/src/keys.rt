@@ -16,6 +16,7 @@ use crate::values::{
     tables_in,
 };
 use crate::{Key, key_text};
+use seq_limits::MOST_CORNERS;
 use seq_model::Spot;
 use std::alloc::Global;
 use toml::{Table, Value};
@@ -155,10 +156,10 @@ pub fn corners_at(
     requires low { IsFewGrains low }
     requires high { IsFewGrains high }
     ensures ok { IfOk result
-        (λ spots. key_at key (corners_in 1 32 grain (grain *ℤ low) (grain *ℤ high))
+        (λ spots. key_at key (corners_in 1 MOST_CORNERS grain (grain *ℤ low) (grain *ℤ high))
         (table_view table.now) ≡ Ok spots.items) }
     ensures err { IfErr result
-        (StopsKey (key_at key (corners_in 1 32 grain (grain *ℤ low) (grain *ℤ high))
+        (StopsKey (key_at key (corners_in 1 MOST_CORNERS grain (grain *ℤ low) (grain *ℤ high))
         (table_view table.now))) }
 {
     let value = match value_at(table, key) {
@@ -168,7 +169,7 @@ pub fn corners_at(
     match corners_in(
         alloc,
         1,
-        32,
+        MOST_CORNERS,
         grain,
         grains(grain, low),
         grains(grain, high),

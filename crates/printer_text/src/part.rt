@@ -18,7 +18,7 @@ use crate::values::{Bad, Cause};
 use crate::{Key, Prn};
 use owned_lists::{Items, Text};
 use printer_envelopes::{bands_of, bar_corners};
-use seq_limits::{FARTHEST, MOST_REACH};
+use seq_limits::{FARTHEST, LONGEST_NAME, MOST_REACH};
 use seq_model::{Part, Spot};
 use std::alloc::Global;
 use toml::Table;
@@ -71,7 +71,7 @@ fn read_first(table: &Table) -> Result<(&str, Heights), Bad>
         (λ bad. (sizes : Sizes)
         → reading part_keys (table_view table.now) (about sizes) ≡ Err bad) }
 {
-    let name = name_at(table, Key::Name, 1, 40)?;
+    let name = name_at(table, Key::Name, 1, LONGEST_NAME)?;
     let from = length_at(table, Key::From, 0, i64::from(FARTHEST))?;
     let to = length_if(table, Key::To, from, i64::from(FARTHEST))?;
     let bar = axis_if(table, Key::Bar)?;

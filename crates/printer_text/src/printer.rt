@@ -17,6 +17,7 @@ use crate::top::{Sizes, read_top};
 use crate::{Key, Prn};
 use convex_outline::hull;
 use owned_lists::{Items, Text};
+use seq_limits::MOST_LISTED_PARTS;
 use seq_model::{Part, Printer, Spot};
 use seq_num::NoMemory;
 use std::alloc::{AllocError, Global};
@@ -63,7 +64,7 @@ fn kept_part(alloc: Global, part: Part) -> Result<Part, NoMemory>
 // The tip and the listed parts behind it, with the corners of their hulls.
 fn read_parts(alloc: Global, sizes: &Sizes, listed: &[Value]) -> Result<Vec<Part>, Prn>
     requires sizes { AreSizes sizes.now }
-    requires few { length listed.now ≤ 12 }
+    requires few { length listed.now ≤ MOST_LISTED_PARTS }
     ensures ok { IfOk result (λ parts. ArePartsOf sizes.now (items_view listed.now) parts.items) }
     ensures err { IfErr result (λ e. (e ≡ Prn.NoMemory)
         ⊎ (parts_behind 1 sizes.now (tip ∷ []) (items_view listed.now) ≡ Err e)) }
@@ -108,7 +109,7 @@ fn top_alone<'a>(alloc: Global, table: &'a Table) -> Result<(Sizes, Option<&'a [
     ensures ok { IfOk result (λ top. top_in (table_view table.now)
         ≡ Ok (said_top top.0 (option_map (λ values. items_view values.now) top.1))) }
     ensures ranged { IfOk result (λ top. AreSizes top.0) }
-    ensures few { IfOk result (λ top. IfSome top.1 (λ values. length values.now ≤ 12)) }
+    ensures few { IfOk result (λ top. IfSome top.1 (λ values. length values.now ≤ MOST_LISTED_PARTS)) }
     ensures err { IfErr result (λ e. (e ≡ Prn.NoMemory) ⊎ (top_in (table_view table.now) ≡ Err e)) }
 {
     let top = match read_top(table) {

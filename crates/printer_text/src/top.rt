@@ -10,7 +10,8 @@ use crate::Key;
 use crate::keys::{grains_at, integer_at, length_at, pair_at, tables_if};
 use crate::values::Bad;
 use seq_limits::{
-    LEAST_GRAIN, LEAST_STEP, MOST_GRAIN, MOST_GRID, MOST_MARGIN, MOST_PLATE, MOST_STEP,
+    LEAST_GRAIN, LEAST_STEP, MOST_GRAIN, MOST_GRID, MOST_LISTED_PARTS, MOST_MARGIN, MOST_PLATE,
+    MOST_STEP,
 };
 use toml::{Table, Value};
 
@@ -31,7 +32,7 @@ pub fn read_top(table: &Table) -> Result<(Sizes, Option<&[Value]>), Bad>
         (λ top. reading top_keys (table_view table.now) nothing
         ≡ Ok (said_top top.0 (option_map (λ values. items_view values.now) top.1))) }
     ensures ranged { IfOk result (λ top. AreSizes top.0) }
-    ensures few { IfOk result (λ top. IfSome top.1 (λ values. length values.now ≤ 12)) }
+    ensures few { IfOk result (λ top. IfSome top.1 (λ values. length values.now ≤ MOST_LISTED_PARTS)) }
     ensures err { IfErr result (λ bad. reading top_keys (table_view table.now) nothing ≡ Err bad) }
 {
     let _format = integer_at(table, Key::Format, 1, 1)?;
@@ -40,7 +41,7 @@ pub fn read_top(table: &Table) -> Result<(Sizes, Option<&[Value]>), Bad>
     let step = length_at(table, Key::Step, LEAST_STEP, MOST_STEP)?;
     let margin = grains_at(table, Key::Margin, grain, 1, MOST_MARGIN)?;
     let grid = integer_at(table, Key::Grid, 1, i64::from(MOST_GRID))?;
-    let listed = tables_if(table, Key::Part, 12)?;
+    let listed = tables_if(table, Key::Part, MOST_LISTED_PARTS)?;
     let sizes = Sizes {
         grain,
         width: plate.x,

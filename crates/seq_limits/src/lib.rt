@@ -44,3 +44,15 @@ pub const MOST_GRID: u32 = 1_000;
 
 /// The farthest that a corner of a part is from the tip, in grains each way.
 pub const MOST_REACH: u32 = 100_000;
+
+/// The most parts that a description lists.
+pub const MOST_LISTED_PARTS: usize = 12;
+
+/// The most parts of a printer: those, and the tip.
+pub const MOST_PARTS: usize = 13;
+
+/// The most corners of a part.
+pub const MOST_CORNERS: usize = 32;
+
+/// The most bytes of a part's name.
+pub const LONGEST_NAME: usize = 40;
