@@ -1,12 +1,12 @@
 use Rattle.std.proofs.Common.{arith, inl, inr}
 use Rattle.decimal_lengths.proofs.SizeLaws.{far_above}
 use Rattle.decimal_lengths.proofs.sizing.raised.Goals as goal
-use Rattle.decimal_lengths.proofs.sizing.raised.Goals.{then-kept-gt-GREATEST-via-then-kept-gt-GREATEST, then-kept-gt-GREATEST-via-else-kept-gt-GREATEST+then-by-gt7}
+use Rattle.decimal_lengths.proofs.sizing.raised.Goals.{then-kept-from-via-then-kept-from, then-kept-from-via-else-kept-from+then-by-gt7}
 
-pub returns-then-kept-gt-GREATEST : goal.returns-then-kept-gt-GREATEST
-returns-then-kept-gt-GREATEST c =
+pub returns-then-kept-from : goal.returns-then-kept-from
+returns-then-kept-from c =
     far_above c.args.kept c.args.by (omega arith)
-    (elim c.then-kept-gt-GREATEST.branch [
-      | then-kept-gt-GREATEST-via-then-kept-gt-GREATEST w ↦ inl (omega arith)
-      | then-kept-gt-GREATEST-via-else-kept-gt-GREATEST+then-by-gt7 w ↦ inr (omega arith)
+    (elim c.then-kept-from.branch [
+      | then-kept-from-via-then-kept-from w ↦ inl (omega arith)
+      | then-kept-from-via-else-kept-from+then-by-gt7 w ↦ inr (omega arith)
     ])

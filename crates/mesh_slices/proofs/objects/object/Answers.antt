@@ -17,7 +17,7 @@ returns-clause-object c =
     let e = c.measure_of-measure.ensures in
     let n = c.few_bands-bands.result in
     let same = c.few_bands-bands.ensures in
-    let not_more = c.if-measure-gt200.false in
+    let not_more = c.if-measure-from.false in
     let few : n ≤ 200 = omega arith in
     let fits : FitsSigned w64 m.height = search rules in
     object_is p c.args.mesh.now.facets c.args.name.now _ c.args.mesh.now.near c.in_ok-from_str.ensures

@@ -9,8 +9,8 @@ use Rattle.text_lines.specs.Laws.Reading.{mapped_some}
 use Rattle.plan_text.proofs.Placing.{loop_more, loop_none, loop_full, step_end, smaller_rest}
 use Rattle.plan_text.proofs.reading.places.Goals as goal
 
-pub returns-then-len-eq16-clause-answer : goal.returns-then-len-eq16-clause-answer
-returns-then-len-eq16-clause-answer c = λ _.
+pub returns-then-len-eq-MOST_OBJECTS-clause-answer : goal.returns-then-len-eq-MOST_OBJECTS-clause-answer
+returns-then-len-eq-MOST_OBJECTS-clause-answer c = λ _.
     (let found = c.loop-found.found.items in
     let count : c.len.result ≡ length found = omega arith in
     let refused : c.refusal.result ≡ refusal (length found + 6) what.Place c.loop-found.rest.now = c.refusal.ensures ∙ ap (λ n. refusal (n + 6) what.Place c.loop-found.rest.now) count in
