@@ -23,6 +23,9 @@ use seq_model::{Part, Spot};
 use std::alloc::Global;
 use toml::Table;
 
+// The same, as the readers of lengths take it.
+const REACH: i64 = MOST_REACH as i64;
+
 /// Where a part begins and ends above the tip, in µm, and whether it is a bar, along x or y.
 #[derive(Clone, Copy, Debug)]
 pub struct Heights {
@@ -93,17 +96,11 @@ fn bar_outline(
     ensures err { IfErr result
         (StopsKey (outline_in sizes.now (Some along_x) (table_view table.now))) }
 {
-    let low = match grains_at(
-        table,
-        Key::Low,
-        sizes.grain,
-        -i64::from(MOST_REACH),
-        i64::from(MOST_REACH),
-    ) {
+    let low = match grains_at(table, Key::Low, sizes.grain, -REACH, REACH) {
         Ok(low) => low,
         Err(bad) => return Err(Unread::Bad(bad)),
     };
-    let high = match grains_at(table, Key::High, sizes.grain, low, i64::from(MOST_REACH)) {
+    let high = match grains_at(table, Key::High, sizes.grain, low, REACH) {
         Ok(high) => high,
         Err(bad) => return Err(Unread::Bad(bad)),
     };
@@ -131,14 +128,7 @@ fn outline(
     ensures err { IfErr result (StopsKey (outline_in sizes.now bar (table_view table.now))) }
 {
     match bar {
-        None => corners_at(
-            alloc,
-            table,
-            Key::Corners,
-            sizes.grain,
-            -i64::from(MOST_REACH),
-            i64::from(MOST_REACH),
-        ),
+        None => corners_at(alloc, table, Key::Corners, sizes.grain, -REACH, REACH),
         Some(along_x) => bar_outline(alloc, table, sizes, along_x),
     }
 }
