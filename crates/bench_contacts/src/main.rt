@@ -1,6 +1,6 @@
 //! Times what a search asks of contacts: all maximal contacts of 16 objects of 20 zones with 3 parts; the sides of contacts that are
 //! kept; and whether a contact of 4 sides collides at a point of a system, where the point is narrow and where it is wide. It prints
-//! what came of it, and on the error stream the least time of a call over many rounds; `bench/contacts` runs it.
+//! what came of it, and on the error stream the least time of a call over many rounds; `bench/run contacts` runs it.
 //!
 //! Each object is a tower of octagons, smaller from band to band but for some. Nothing is promised here but that the calls may be
 //! made.

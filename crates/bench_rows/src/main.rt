@@ -1,7 +1,7 @@
 //! Pivots dictionaries of 32 variables and 64 rows, makes dictionaries of 32 bounds, and solves a system of 32 bounds and
 //! 98 rows of four entries each. It prints what came of it, and on the error stream the time of a
 //! call in the best of many rounds;
-//! `bench/pivots_of_64_rows` runs it. Nothing is promised here but that the calls may be made.
+//! `bench/run rows` runs it. Nothing is promised here but that the calls may be made.
 #![tactic(auto)]
 
 ghost use Rattle.std.specs.Prelude.{◌<◌, ◌^◌, unsigned_abs, IfOk, length, ◌≡◌};

@@ -1,5 +1,5 @@
 //! Writes a tree of 999,999 nodes, whose text has 20 MB, and reads it again; and reads a chain of 1,000,000 splits, and one of a
-//! split more, which is too deep. It prints what came of it, and on the error stream the milliseconds; `bench/trees_of_1000000_nodes`
+//! split more, which is too deep. It prints what came of it, and on the error stream the milliseconds; `bench/run trees`
 //! runs it. Nothing is promised here but that the calls may be made.
 #![tactic(auto)]
 

@@ -1,7 +1,7 @@
 -- Circles, one step after the other.
 --
 --   RunsOn R from objects first   from one object to the next of the list, and from the last to the first
---   IsOnTrail trail a b            a before b stands on the path
+--   IsOnTrail trail a b           a before b stands on the path
 use Rattle.std.specs.Prelude.{ℕ, List, [], ◌∷◌, Contains}
 use Rattle.seq_model.specs.declared.tree.Choice.TheVariants as Choices
 use Rattle.cert_checker.specs.declared.trail.Trail.{Trail}

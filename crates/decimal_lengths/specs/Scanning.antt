@@ -11,7 +11,7 @@
 --   Keeps number x          the number in the code keeps of x what its length needs
 --   IsCounted number n      its numbers are small, and no more than n digits are counted in it
 --   Accepts bytes number    the reading comes through the bytes, and the number keeps what it gathers
---   StopsBy bytes cause       it doesn't come through them
+--   StopsBy bytes cause     it doesn't come through them
 use Rattle.std.specs.Prelude.{◌≡◌, ℕ, ◌+◌, ◌*◌, ◌-◌, ◌/◌, ◌^◌, ◌<◌, ◌≤◌, min, ◌==◌, ◌||◌, Bool, true, false, List, length, take, Option, Some, None, fold, if◌then◌else◌}
 use Rattle.std.specs.Option.{option_map}
 use Rattle.std.specs.Char.{is_ascii_digit}

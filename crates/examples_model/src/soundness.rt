@@ -1,11 +1,18 @@
 //! What no job holds.
 
-ghost use Rattle.std.specs.Prelude.{[], ◌∷◌, pos};
+ghost use Rattle.std.specs.Prelude.{◌≡◌, ◌+◌, [], ◌∷◌, pos};
 ghost use Rattle.seq_model.specs.Contacts.{IsContact};
 ghost use Rattle.seq_model.specs.Parts.{AreParts};
 ghost use Rattle.seq_model.specs.Soundness.{IsSoundZone};
 ghost use Rattle.examples_model.specs.Cubes.{spot};
 ghost use Rattle.examples_model.specs.Jobs.{two_cubes, nozzle_part};
+
+use seq_limits::{MOST_LISTED_PARTS, MOST_PARTS};
+
+/// The tip is a part more than a description may list.
+pub fn the_tip_is_one_part_more()
+    ensures { MOST_PARTS ≡ MOST_LISTED_PARTS + 1 }
+{}
 
 /// The parts of a printer begin with the tip.
 pub fn parts_without_the_tip()

@@ -1,6 +1,6 @@
 -- When each answer comes: just where what it says is so; and that it is read off where the walk ends.
 --
---   IsPointAnswer, IsContradiction, IsWideAnswer solved     which of the three it is
+--   IsPointAnswer, IsContradictionAnswer, IsWideAnswer solved     which of the three it is
 --   SomePoint rows               some point meets all rows
 --   NoPoint rows                 no point meets all rows
 --   SomeWide vars rows           the walk from all slacks ends before a wide basis
@@ -23,10 +23,10 @@ IsPointAnswer (Solveds.Point den list) = Unit {0}
 IsPointAnswer (Solveds.Contradiction list) = ⊥
 IsPointAnswer (Solveds.Wide basis row) = ⊥
 
-abbrev pub IsContradiction : Solved → Type 0
-IsContradiction (Solveds.Point den list) = ⊥
-IsContradiction (Solveds.Contradiction list) = Unit {0}
-IsContradiction (Solveds.Wide basis row) = ⊥
+abbrev pub IsContradictionAnswer : Solved → Type 0
+IsContradictionAnswer (Solveds.Point den list) = ⊥
+IsContradictionAnswer (Solveds.Contradiction list) = Unit {0}
+IsContradictionAnswer (Solveds.Wide basis row) = ⊥
 
 abbrev pub IsWideAnswer : Solved → Type 0
 IsWideAnswer (Solveds.Point den list) = ⊥
@@ -44,7 +44,7 @@ SomeWide vars rows = (basis : List ℕ) × (row : ℕ) × WalkWide vars rows bas
 
 pub record Exactly (vars : ℕ) (rows : List Row) (solved : Solved) : Type 0 where
   pub point : IsPointAnswer solved ↔ (SomePoint rows × NeverWide vars rows)
-  pub contradiction : IsContradiction solved ↔ (NoPoint rows × NeverWide vars rows)
+  pub contradiction : IsContradictionAnswer solved ↔ (NoPoint rows × NeverWide vars rows)
   pub wide : IsWideAnswer solved ↔ SomeWide vars rows
 
 pub record IsWalked (vars : ℕ) (rows : List Row) (solved : Solved) : Type 0 where

@@ -2,7 +2,7 @@
 --
 --   SpacePoint                    the point x / d, y / d, z / d
 --   three f                       the corners of a facet
---   LiesOn f q                      q is a point of the facet: a mean of its corners, with weights of at least 0, not all 0
+--   LiesOn f q                    q is a point of the facet: a mean of its corners, with weights of at least 0, not all 0
 --   LiesInBand facets step b q    the height of q is that of band b, where the least z of the mesh is 0
 --   HasBand facets step q         the mesh has a band with the height of q
 --   in_grains g q                 the point of the plane below q, in grains of g µm

@@ -2,7 +2,7 @@ ghost use Rattle.std.specs.Prelude.{◌≡◌, ◌≤◌, pos, neg_ℤ, ◌≤�
 ghost use Rattle.integer_laws.specs.Quotients.{floor, ceil};
 ghost use Rattle.seq_model.specs.Outlines.{below, above};
 
-use seq_limits::MOST_MARGIN;
+use seq_limits::GREATEST_MARGIN;
 
 // x / d, rounded down.
 fn floor_of(x: i64, d: i64) -> i64
@@ -36,7 +36,7 @@ pub fn ceil_of(x: i64, d: i64) -> i64
 pub fn spot_below(x: i64, d: i64, margin: i64) -> i64
     requires size { unsigned_abs x ≤ 400_000_000_000_000 }
     requires d { pos 1 ≤ℤ d }
-    requires margin { unsigned_abs margin ≤ unsigned_abs MOST_MARGIN }
+    requires margin { unsigned_abs margin ≤ unsigned_abs GREATEST_MARGIN }
     ensures { result ≡ below margin x d }
 {
     floor_of(x, d) - margin
@@ -46,7 +46,7 @@ pub fn spot_below(x: i64, d: i64, margin: i64) -> i64
 pub fn spot_above(x: i64, d: i64, margin: i64) -> i64
     requires size { unsigned_abs x ≤ 400_000_000_000_000 }
     requires d { pos 1 ≤ℤ d }
-    requires margin { unsigned_abs margin ≤ unsigned_abs MOST_MARGIN }
+    requires margin { unsigned_abs margin ≤ unsigned_abs GREATEST_MARGIN }
     ensures { result ≡ above margin x d }
 {
     ceil_of(x, d) + margin

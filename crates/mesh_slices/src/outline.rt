@@ -12,7 +12,7 @@ use crate::corner::{CornerPoint, Slab};
 use crate::grains::{spot_above, spot_below};
 use crate::points::{corner_points, misses};
 use convex_outline::hull;
-use seq_limits::MOST_GRAIN;
+use seq_limits::GREATEST_GRAIN;
 use seq_model::{Facet, Printer, Spot};
 use seq_num::NoMemory;
 use std::alloc::{AllocError, Global};
@@ -25,7 +25,7 @@ fn grains_of(d: i64, grain: i64) -> i64
     requires low { pos 1 ≤ℤ d }
     requires high { d ≤ℤ pos 20_000_000 }
     requires grain_low { pos 1 ≤ℤ grain }
-    requires grain_high { grain ≤ℤ MOST_GRAIN }
+    requires grain_high { grain ≤ℤ GREATEST_GRAIN }
     ensures value { result ≡ d *ℤ grain }
     ensures low { pos 1 ≤ℤ result }
 {

@@ -7,7 +7,7 @@ ghost use Rattle.mesh_slices.specs.Runs.{AreRunsOf};
 use crate::corner::Slab;
 use crate::outline::outline_of;
 use owned_lists::Items;
-use seq_limits::{FARTHEST, MOST_BANDS, MOST_STEP};
+use seq_limits::{FARTHEST, GREATEST_STEP, MOST_BANDS};
 use seq_model::{Facet, Printer, Spot, Zone};
 use seq_num::NoMemory;
 use std::alloc::{AllocError, Global};
@@ -101,7 +101,7 @@ fn add_band(zones: &mut Vec<Zone>, corners: Vec<Spot>, band: u32) -> Result<(), 
 // How far a band lies above the bottom.
 fn lift_of(step: i64, band: u32) -> i64
     requires low { pos 1 ≤ℤ step }
-    requires high { step ≤ℤ MOST_STEP }
+    requires high { step ≤ℤ GREATEST_STEP }
     requires band { band < MOST_BANDS }
     ensures value { result ≡ step *ℤ pos band }
     ensures size { unsigned_abs result ≤ 20_000_000 }
@@ -113,7 +113,7 @@ fn lift_of(step: i64, band: u32) -> i64
 fn slab_of(bottom: i64, step: i64, band: u32) -> Slab
     requires bottom { unsigned_abs bottom ≤ FARTHEST }
     requires low { pos 1 ≤ℤ step }
-    requires high { step ≤ℤ MOST_STEP }
+    requires high { step ≤ℤ GREATEST_STEP }
     requires band { band < MOST_BANDS }
     ensures low { result.low ≡ bottom +ℤ step *ℤ pos band }
     ensures high { result.high ≡ (bottom +ℤ step *ℤ pos band) +ℤ step }

@@ -7,7 +7,7 @@
 --                                   fewer at each later one, and they held the system of the choices before it; all steps hold that of all
 --   HasOnlyRows warm n rows         these rows were added to a system of none, and nothing else was done
 --   IsTrail job t                   the rows and the orders of the choices that were entered, and no others
---   IsTrailOf job e path t           these choices are those of the path
+--   IsTrailOf job e path t          these choices are those of the path
 --   IsEntered job e path k t how    what has become of choice k of the path: it is held, or closes a cycle of orders, or isn't held
 --   IsFollowed job e path t how     the same of all of them
 --   IsWarmed vars rows warmed       a point that meets the rows, or a contradiction of them

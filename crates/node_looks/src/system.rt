@@ -11,7 +11,7 @@ ghost use Rattle.seq_model.specs.Trees.{IsPath};
 
 use difference_polygon::{SideRow, side_row};
 use owned_lists::Items;
-use seq_limits::MOST_PLATE;
+use seq_limits::GREATEST_PLATE;
 use seq_model::{Choice, Contact, Dir, Job, Object, Region, Row, region};
 use std::alloc::{AllocError, Global};
 
@@ -36,7 +36,7 @@ fn bound_row(alloc: Global, job: &Job, variable: usize, bound: &i64) -> Result<R
 
 // What is left of a size by a span from low to high.
 fn room(size: &i64, low: &i64, high: &i64) -> i64
-    requires size { unsigned_abs size.now ≤ unsigned_abs MOST_PLATE }
+    requires size { unsigned_abs size.now ≤ unsigned_abs GREATEST_PLATE }
     requires low { unsigned_abs low.now ≤ 1_001_000 }
     requires high { unsigned_abs high.now ≤ 1_001_000 }
     ensures { result ≡ size.now -ℤ (high.now -ℤ low.now) }
@@ -54,7 +54,7 @@ fn room_row(
     high: &i64,
 ) -> Result<Row, AllocError>
     requires variable { variable < 2 * length job.now.objects }
-    requires size { unsigned_abs size.now ≤ unsigned_abs MOST_PLATE }
+    requires size { unsigned_abs size.now ≤ unsigned_abs GREATEST_PLATE }
     requires low { unsigned_abs low.now ≤ 1_001_000 }
     requires high { unsigned_abs high.now ≤ 1_001_000 }
     ensures { IfOk result (λ row. row ≡ at_most job.now variable (size.now -ℤ (high.now -ℤ low.now))) }
@@ -72,8 +72,8 @@ fn push_bounds(
     variable: usize,
 ) -> Result<(), AllocError>
     requires variable { variable + 1 < 2 * length job.now.objects }
-    requires w { unsigned_abs region.now.w ≤ unsigned_abs MOST_PLATE }
-    requires h { unsigned_abs region.now.h ≤ unsigned_abs MOST_PLATE }
+    requires w { unsigned_abs region.now.w ≤ unsigned_abs GREATEST_PLATE }
+    requires h { unsigned_abs region.now.h ≤ unsigned_abs GREATEST_PLATE }
     requires low { IsNearSpot 1_001_000 object.now.low }
     requires high { IsNearSpot 1_001_000 object.now.high }
     ensures { OnOk result (rows.new.items ≡ rows.old.items

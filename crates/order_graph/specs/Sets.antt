@@ -1,7 +1,7 @@
 -- Orders as sets of objects, one for each object: those that are ordered before it. A set is a number of 16 bits.
 --
---   HasMember set k                        bit k of the set is 1
---   HasBefore before a b              the set of b has a
+--   HasMember set k                  bit k of the set is 1
+--   HasBefore before a b             the set of b has a
 --   AreBefore orders b set           the set has just what is ordered before b
 --   AreNoted orders before           each object has the set of what is ordered before it
 --   AreFormer held former            for each order its second object's set as it was before that order was held

@@ -1,6 +1,6 @@
 -- Contacts with what their tests need.
 --
---   IsSmallSpot s            coordinates below 2^22 in size
+--   IsSmallSpot s       coordinates below 2^22 in size
 --   FitsReach r         values below 2^46 in size
 --   IsReach S r         the greatest values of the list along the four ways of the axes, and they fit
 --   shift_at job c      the low corner of the contact's earlier object less that of its later one

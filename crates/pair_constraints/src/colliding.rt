@@ -12,7 +12,7 @@ ghost use Rattle.pair_constraints.specs.Laws.Pairs.{PairHits, PartHits, ZoneHits
 
 use crate::overlaps::zones_overlap;
 use printer_envelopes::zones_meet;
-use seq_limits::{MOST_BANDS, MOST_OBJECTS};
+use seq_limits::{MOST_BANDS, MOST_PARTS};
 use seq_model::{Contact, Job, Part, Place, Zone};
 
 fn contact_overlaps(
@@ -68,7 +68,7 @@ fn first_part(
     scale: i128,
 ) -> Option<u32>
     requires parts { All IsSoundPart parts.now }
-    requires few { length parts.now ≤ MOST_OBJECTS }
+    requires few { length parts.now ≤ MOST_PARTS }
     requires a { IsSoundZone a.now }
     requires b { IsSoundZone b.now }
     requires places { ArePlaces earlier.now later.now scale }
@@ -92,7 +92,7 @@ fn first_zone(
     scale: i128,
 ) -> Option<(u32, u32)>
     requires parts { All IsSoundPart parts.now }
-    requires few { length parts.now ≤ MOST_OBJECTS }
+    requires few { length parts.now ≤ MOST_PARTS }
     requires zones { All IsSoundZone zones.now }
     requires few_zones { length zones.now ≤ MOST_BANDS }
     requires b { IsSoundZone b.now }
@@ -118,7 +118,7 @@ fn first_pair(
     scale: i128,
 ) -> Option<(u32, (u32, u32))>
     requires parts { All IsSoundPart parts.now }
-    requires few { length parts.now ≤ MOST_OBJECTS }
+    requires few { length parts.now ≤ MOST_PARTS }
     requires zones { All IsSoundZone zones.now }
     requires few_zones { length zones.now ≤ MOST_BANDS }
     requires later_zones { All IsSoundZone later_zones.now }

@@ -13,7 +13,7 @@ ghost use Rattle.seq_model.specs.Soundness.{IsSoundZone};
 
 use crate::zones::overlap;
 use printer_envelopes::meets;
-use seq_limits::MOST_OBJECTS;
+use seq_limits::MOST_PARTS;
 use seq_model::{Job, Part, RatPoint, Zone};
 
 // The zone that holds a band.
@@ -48,7 +48,7 @@ fn first_part(
     at: &RatPoint,
 ) -> Option<u32>
     requires parts { All IsSoundPart parts.now }
-    requires few { length parts.now ≤ MOST_OBJECTS }
+    requires few { length parts.now ≤ MOST_PARTS }
     requires a { IsSoundZone a.now }
     requires b { IsSoundZone b.now }
     requires at { FitsProducts at.now }

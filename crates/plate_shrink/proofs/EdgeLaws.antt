@@ -16,7 +16,7 @@ use Rattle.plan_laws.specs.Audits.{BoxOf}
 use Rattle.plan_laws.specs.Inside.{IsInside, region_at}
 use Rattle.plan_laws.specs.Laws.Audits.{box_by_in, in_by_box}
 use Rattle.seq_model.specs.Jobs.{object_at, scene_of_job}
-use Rattle.seq_model.specs.Scenes.{LiesOnPlate, Valid}
+use Rattle.seq_model.specs.Scenes.{In, Valid}
 use Rattle.seq_model.specs.declared.job.Job.{Job}
 use Rattle.seq_model.specs.declared.plan.Place.{Place}
 use Rattle.seq_model.specs.declared.plan.Plan.{Plan}
@@ -112,7 +112,7 @@ lies_by_narrow job e a n = record { west = omega (arith, ints); east = omega (ar
 
 -- ---- a plan
 inside_moved : (job : Job) (e : ℕ) (x y : ℤ) (plan : Plan) → pos 1 ≤ℤ plan.scale → All (λ (p : Place). p.object < length job.objects) plan.places
-    → All (λ (p : Place). LiesAt job e x y (edges_of job plan.scale p)) plan.places → LiesOnPlate (scene_of_job job) e (plan_moved x y plan)
+    → All (λ (p : Place). LiesAt job e x y (edges_of job plan.scale p)) plan.places → In (scene_of_job job) e (plan_moved x y plan)
 inside_moved job e x y plan one known each = inside_of plan.places known each
   where
     inside_of : (places : List Place) → All (λ (p : Place). p.object < length job.objects) places → All (λ (p : Place). LiesAt job e x y (edges_of job plan.scale p)) places → All (IsInside job e plan.scale) (map (moved_by plan.scale x y) places)

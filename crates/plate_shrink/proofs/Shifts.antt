@@ -11,7 +11,7 @@ use Rattle.std.specs.Prelude.{nat_eq}
 use Rattle.integer_laws.specs.Laws.Ring.{expand}
 use Rattle.seq_model.specs.Outlines.{Inner}
 use Rattle.seq_model.specs.Points.{Point, SamePoint, minus, place_point, plus}
-use Rattle.seq_model.specs.Scenes.{Collides, LiesOnPlate, Overlap, Scene, Valid}
+use Rattle.seq_model.specs.Scenes.{Collides, In, Overlap, Scene, Valid}
 use Rattle.seq_model.specs.declared.plan.Place.{Place}
 use Rattle.seq_model.specs.declared.plan.Plan.{Plan}
 use Rattle.seq_model.specs.declared.printer.Spot.{Spot}
@@ -69,7 +69,7 @@ as_often s x y o places = counted_from s x y o 0 places
 abbrev pub plan_moved : ℤ → ℤ → Plan → Plan
 plan_moved x y plan = record { scale = plan.scale; places = map (moved_by plan.scale x y) plan.places }
 
-pub valid_moved : (scene : Scene) (e f : ℕ) (x y : ℤ) (plan : Plan) → Valid scene e plan → 1 ≤ f → f ≤ scene.grid → LiesOnPlate scene f (plan_moved x y plan) → Valid scene f (plan_moved x y plan)
+pub valid_moved : (scene : Scene) (e f : ℕ) (x y : ℤ) (plan : Plan) → Valid scene e plan → 1 ≤ f → f ≤ scene.grid → In scene f (plan_moved x y plan) → Valid scene f (plan_moved x y plan)
 valid_moved scene e f x y plan v one grid inside = record {
   from_one = one;
   to_grid = grid;

@@ -2,7 +2,7 @@
 --
 --   IsFitted job e fitted   its plan is found at its extent, which is at most e
 --   FitsNoLower job plan e  at no smaller extent is the plan valid, moved as a whole by whole grains
---   IsSmallShift shift            its numbers are small
+--   IsSmallShift shift      its numbers are small
 --   place_by scale shift p  the place p over the scale, moved by whole grains
 --   plan_by shift plan      the plan with all places moved so
 use Rattle.std.specs.Prelude.{ℕ, ◌^◌, ◌<◌, ◌≤◌, ℤ, ◌+ℤ◌, ◌*ℤ◌, map, unsigned_abs}

@@ -9,7 +9,7 @@ ghost use Rattle.seq_model.specs.Scenes.{Meets};
 ghost use Rattle.seq_model.specs.declared.job.Zone.{Zone};
 ghost use Rattle.seq_model.specs.declared.printer.Part.{Part};
 
-use seq_limits::FARTHEST;
+use seq_limits::{FARTHEST, LEAST_STEP};
 use seq_model::{Part, Zone};
 use seq_num::{ceil_div, floor_div};
 
@@ -17,7 +17,7 @@ use seq_num::{ceil_div, floor_div};
 fn first_band(from: i64, step: i64) -> u32
     requires low { pos 0 ≤ℤ from }
     requires high { from ≤ℤ pos FARTHEST }
-    requires step { pos 10 ≤ℤ step }
+    requires step { LEAST_STEP ≤ℤ step }
     ensures value { result ≡ first_band from step }
     ensures rounds { IsFloor from step (pos result) }
     ensures near { result ≤ 1_000_000 }
@@ -29,7 +29,7 @@ fn first_band(from: i64, step: i64) -> u32
 fn last_band(to: i64, step: i64) -> u32
     requires low { pos 0 ≤ℤ to }
     requires high { to ≤ℤ pos FARTHEST }
-    requires step { pos 10 ≤ℤ step }
+    requires step { LEAST_STEP ≤ℤ step }
     ensures value { result ≡ last_band to step }
     ensures rounds { IsCeil to step (pos result) }
     ensures near { result ≤ 1_000_000 }
@@ -43,7 +43,7 @@ pub fn bands_of(from: i64, to: Option<i64>, step: i64) -> (u32, Option<u32>)
     requires low { pos 0 ≤ℤ from }
     requires high { from ≤ℤ pos FARTHEST }
     requires to { ForSome to (λ t. (from ≤ℤ t) × (t ≤ℤ pos FARTHEST)) }
-    requires step { pos 10 ≤ℤ step }
+    requires step { LEAST_STEP ≤ℤ step }
     ensures lo { result.0 ≡ first_band from step }
     ensures hi { result.1 ≡ option_map (λ t. last_band t step) to }
     ensures rounded_down { IsFloor from step (pos result.0) }

@@ -18,7 +18,7 @@
 use Rattle.std.specs.Prelude.{ℕ, ℤ, pos, neg_ℤ, Bool, List, [], ◌∷◌, Option, Some, None}
 use Rattle.printer_text.specs.declared.Key.{Key}
 use Rattle.printer_text.specs.declared.Key.TheVariants as key
-use Rattle.seq_limits.specs.declared.TheConstants.{FARTHEST, LEAST_GRAIN, LEAST_STEP, LONGEST_NAME, MOST_CORNERS, MOST_GRAIN, MOST_GRID, MOST_LISTED_PARTS, MOST_MARGIN, MOST_PLATE, MOST_REACH, MOST_STEP}
+use Rattle.seq_limits.specs.declared.TheConstants.{FARTHEST, LEAST_GRAIN, LEAST_STEP, LONGEST_NAME, MOST_CORNERS, GREATEST_GRAIN, MOST_GRID, MOST_LISTED_PARTS, GREATEST_MARGIN, GREATEST_PLATE, GREATEST_REACH, GREATEST_STEP}
 
 pub data Bound : Type 0 where
   um : ℤ → Bound
@@ -46,10 +46,10 @@ pub data Row : Type 0 where
 abbrev pub top_keys : List Row
 top_keys =
     required key.Format (integer (pos 1) (pos 1))
-    ∷ required key.Grain (length (um LEAST_GRAIN) (um MOST_GRAIN) anywhere)
-    ∷ required key.Plate (two_lengths (grains (pos 1)) (grains MOST_PLATE))
-    ∷ required key.Step (length (um LEAST_STEP) (um MOST_STEP) anywhere)
-    ∷ required key.Margin (length (grains (pos 1)) (grains MOST_MARGIN) on_grain)
+    ∷ required key.Grain (length (um LEAST_GRAIN) (um GREATEST_GRAIN) anywhere)
+    ∷ required key.Plate (two_lengths (grains (pos 1)) (grains GREATEST_PLATE))
+    ∷ required key.Step (length (um LEAST_STEP) (um GREATEST_STEP) anywhere)
+    ∷ required key.Margin (length (grains (pos 1)) (grains GREATEST_MARGIN) on_grain)
     ∷ required key.Grid (integer (pos 1) (pos MOST_GRID))
     ∷ optional key.Part (tables MOST_LISTED_PARTS)
     ∷ []
@@ -64,9 +64,9 @@ part_keys =
 
 abbrev pub outline_keys : Option Bool → List Row
 outline_keys None =
-    required key.Corners (corners 1 MOST_CORNERS (grains (neg_ℤ (pos MOST_REACH))) (grains (pos MOST_REACH)))
+    required key.Corners (corners 1 MOST_CORNERS (grains (neg_ℤ (pos GREATEST_REACH))) (grains (pos GREATEST_REACH)))
     ∷ []
 outline_keys (Some along_x) =
-    required key.Low (length (grains (neg_ℤ (pos MOST_REACH))) (grains (pos MOST_REACH)) on_grain)
-    ∷ required key.High (length value_of_low (grains (pos MOST_REACH)) on_grain)
+    required key.Low (length (grains (neg_ℤ (pos GREATEST_REACH))) (grains (pos GREATEST_REACH)) on_grain)
+    ∷ required key.High (length value_of_low (grains (pos GREATEST_REACH)) on_grain)
     ∷ []

@@ -11,15 +11,15 @@ use Rattle.seq_model.specs.Parts.{IsPartName}
 use Rattle.seq_model.specs.declared.printer.Part.{Part}
 use Rattle.seq_model.specs.declared.printer.Spot.{Spot}
 use Rattle.printer_text.specs.declared.top.Sizes.{Sizes}
-use Rattle.seq_limits.specs.declared.TheConstants.{MOST_CORNERS, MOST_GRAIN, MOST_REACH}
+use Rattle.seq_limits.specs.declared.TheConstants.{GREATEST_GRAIN, GREATEST_REACH, LEAST_GRAIN, MOST_CORNERS}
 
 pub record IsGrain (grain : ℤ) : Type 0 where
-  pub low : pos 10 ≤ℤ grain
-  pub high : grain ≤ℤ MOST_GRAIN
+  pub low : LEAST_GRAIN ≤ℤ grain
+  pub high : grain ≤ℤ GREATEST_GRAIN
 
 pub record IsFewGrains (n : ℤ) : Type 0 where
-  pub low : neg_ℤ (pos MOST_REACH) ≤ℤ n
-  pub high : n ≤ℤ pos MOST_REACH
+  pub low : neg_ℤ (pos GREATEST_REACH) ≤ℤ n
+  pub high : n ≤ℤ pos GREATEST_REACH
 
 abbrev pub AreSizes : Sizes → Type 0
 AreSizes s = IsPrinter s.grain s.width s.depth s.step s.margin s.grid
@@ -27,7 +27,7 @@ AreSizes s = IsPrinter s.grain s.width s.depth s.step s.margin s.grid
 pub record IsOutline (corners : List Spot) : Type 0 where
   pub some : 1 ≤ length corners
   pub few : length corners ≤ MOST_CORNERS
-  pub near : All (IsNearSpot MOST_REACH) corners
+  pub near : All (IsNearSpot GREATEST_REACH) corners
 
 pub record IsListedPart (part : Part) : Type 0 where
   pub name : IsPartName part.name

@@ -3,7 +3,7 @@
 --   Said                         what the keys of a table say
 --   nothing, about sizes         before the first key of the top table, and of a part of a printer with these sizes
 --   bound said b                 a bound, in µm
---   SaidBy rule, value_by rule     what a value of this kind says, and how it is read
+--   SaidBy rule, value_by rule   what a value of this kind says, and how it is read
 --   with_key rule k x said       what is said, and that key k says x
 --   reading rows t said          what the keys of these rows say, after what is said already, or the first refusal
 --   said_top, said_first         what the whole top table says, and the first keys of a part

@@ -8,7 +8,7 @@
 --                           the value of each kind, in its range and on its lattice
 --   key_at k rule t         the value at a key of the table, by a rule; the key has to be there
 --   key_if k rule t         the same for a key that may be absent
---   StopsAs r stop, StopsKey r unread    memory is wanting, or r is this refusal
+--   StopsAs r stop, StopsKey r unread  memory is wanting, or r is this refusal
 use Rattle.std.specs.Prelude.{◌≡◌, ℕ, ℤ, pos, neg_ℤ, ◌*ℤ◌, ◌+◌, ◌++◌, Bool, true, false, ◌&&◌, ◌||◌, List, [], ◌∷◌, length, Option, Some, None, is_some, Result, Ok, Err, if◌then◌else◌, int_le, int_rem, int_div, nat_le, Float, codes}
 use Rattle.std.specs.List.{list_all}
 use Rattle.std.specs.Ordering.{int_eq}

@@ -18,13 +18,13 @@ use crate::values::{Bad, Cause};
 use crate::{Key, Prn};
 use owned_lists::{Items, Text};
 use printer_envelopes::{bands_of, bar_corners};
-use seq_limits::{FARTHEST, LONGEST_NAME, MOST_REACH};
+use seq_limits::{FARTHEST, GREATEST_REACH, LONGEST_NAME};
 use seq_model::{Part, Spot};
 use std::alloc::Global;
 use toml::Table;
 
 // The same, as the readers of lengths take it.
-const REACH: i64 = MOST_REACH as i64;
+const REACH: i64 = GREATEST_REACH as i64;
 
 /// Where a part begins and ends above the tip, in µm, and whether it is a bar, along x or y.
 #[derive(Clone, Copy, Debug)]

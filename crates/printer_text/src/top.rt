@@ -10,8 +10,8 @@ use crate::Key;
 use crate::keys::{grains_at, integer_at, length_at, pair_at, tables_if};
 use crate::values::Bad;
 use seq_limits::{
-    LEAST_GRAIN, LEAST_STEP, MOST_GRAIN, MOST_GRID, MOST_LISTED_PARTS, MOST_MARGIN, MOST_PLATE,
-    MOST_STEP,
+    GREATEST_GRAIN, GREATEST_MARGIN, GREATEST_PLATE, GREATEST_STEP, LEAST_GRAIN, LEAST_STEP,
+    MOST_GRID, MOST_LISTED_PARTS,
 };
 use toml::{Table, Value};
 
@@ -36,10 +36,10 @@ pub fn read_top(table: &Table) -> Result<(Sizes, Option<&[Value]>), Bad>
     ensures err { IfErr result (λ bad. reading top_keys (table_view table.now) nothing ≡ Err bad) }
 {
     let _format = integer_at(table, Key::Format, 1, 1)?;
-    let grain = length_at(table, Key::Grain, LEAST_GRAIN, MOST_GRAIN)?;
-    let plate = pair_at(table, Key::Plate, grain, 1, MOST_PLATE)?;
-    let step = length_at(table, Key::Step, LEAST_STEP, MOST_STEP)?;
-    let margin = grains_at(table, Key::Margin, grain, 1, MOST_MARGIN)?;
+    let grain = length_at(table, Key::Grain, LEAST_GRAIN, GREATEST_GRAIN)?;
+    let plate = pair_at(table, Key::Plate, grain, 1, GREATEST_PLATE)?;
+    let step = length_at(table, Key::Step, LEAST_STEP, GREATEST_STEP)?;
+    let margin = grains_at(table, Key::Margin, grain, 1, GREATEST_MARGIN)?;
     let grid = integer_at(table, Key::Grid, 1, i64::from(MOST_GRID))?;
     let listed = tables_if(table, Key::Part, MOST_LISTED_PARTS)?;
     let sizes = Sizes {

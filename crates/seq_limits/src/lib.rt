@@ -1,4 +1,4 @@
-//! What a job may have: each limit once, for code, clauses and definitions to cite by name.
+//! What a job may have: limits that code, clauses and definitions cite by name.
 //!
 //! Lengths are in micrometres or in grains of the printer, as each says.
 #![tactic(auto)]
@@ -18,37 +18,37 @@ pub const MOST_NODES: u64 = 1_000_000;
 /// The nodes that a search may look at where the words don't say.
 pub const USUAL_NODES: u64 = 20_000;
 
-/// The greatest size of a coordinate or a height, in micrometres: 10 m.
+/// The greatest size of a coordinate of a mesh, and the greatest height at which a part begins or ends, in micrometres: 10 m.
 pub const FARTHEST: u32 = 10_000_000;
 
 /// The least grain, in micrometres.
 pub const LEAST_GRAIN: i64 = 10;
 
 /// The greatest grain, in micrometres.
-pub const MOST_GRAIN: i64 = 10_000;
+pub const GREATEST_GRAIN: i64 = 10_000;
 
 /// The least height of a band, in micrometres.
 pub const LEAST_STEP: i64 = 10;
 
 /// The greatest height of a band, in micrometres.
-pub const MOST_STEP: i64 = 100_000;
+pub const GREATEST_STEP: i64 = 100_000;
 
 /// The greatest width or depth of a plate, in grains.
-pub const MOST_PLATE: i64 = 20_000;
+pub const GREATEST_PLATE: i64 = 20_000;
 
 /// The greatest margin, in grains.
-pub const MOST_MARGIN: i64 = 1_000;
+pub const GREATEST_MARGIN: i64 = 1_000;
 
 /// The most extents of a grid.
 pub const MOST_GRID: u32 = 1_000;
 
-/// The farthest that a corner of a part is from the tip, in grains each way.
-pub const MOST_REACH: u32 = 100_000;
+/// The greatest size of a coordinate of a part's corner, seen from the tip, in grains.
+pub const GREATEST_REACH: u32 = 100_000;
 
 /// The most parts that a description lists.
 pub const MOST_LISTED_PARTS: usize = 12;
 
-/// The most parts of a printer: those, and the tip.
+/// The most parts of a printer: one more, the tip.
 pub const MOST_PARTS: usize = 13;
 
 /// The most corners of a part.

@@ -13,7 +13,7 @@
 --   TrialBroke objects seed o o'         status 8: `out` failed within the text of a trial
 --   IsWanting words s s' e e'            status 9: memory was wanting, and `err` took its line
 --   IsUnwritten words s s' e e' o o'     status 8: the four cases; `out` is written after `err`
---   RunEnds words s s' e e' o o' status     what each status says
+--   RunEnds words s s' e e' o o' status  what each status says
 use Rattle.std.specs.Prelude.{◌≡◌, ◌⊎◌, ℕ, List, Err}
 use Rattle.seq_io.specs.Taken.{BrokeIn, Wrote}
 use Rattle.seq_io.specs.Views.{ShelfView, SinkView}

@@ -2,7 +2,7 @@
 use Rattle.std.proofs.Common.{◌≡◌, ◌∙◌, ℕ, ◌+◌, ◌<◌, Bool, List, length, min, sym, ap, refl, subst, arith, Ok}
 use Rattle.stl_text.specs.declared.words.Word.{Word}
 use Rattle.stl_text.specs.Words.{is_white, is_black, ends_line, IsFirst, IsNext, IsRest}
-use Rattle.stl_text.specs.Reading.{ReadsAs}
+use Rattle.stl_text.specs.Reading.{ReadsOnly}
 use Rattle.stl_text.specs.Grammar.{next, rest}
 
 not_before : (p : ℕ → Bool) (bytes : List ℕ) (at a b : ℕ) → IsFirst p bytes at a → IsFirst p bytes at b → (a < b → ⊥)
@@ -22,13 +22,13 @@ one_word bytes at v w f g =
     let T : ℕ → ℕ → Word = λ m n. record { from = m; to = n } in
     ap (λ m. T m v.to) from_is ∙ ap (T w.from) to_is
 
-pub next_reads : (bytes : List ℕ) (at : ℕ) (word : Word) → IsNext bytes at word → ReadsAs (next bytes at) (Ok word)
+pub next_reads : (bytes : List ℕ) (at : ℕ) (word : Word) → IsNext bytes at word → ReadsOnly (next bytes at) (Ok word)
 next_reads bytes at word is = record {
   stands = record { word = word; is = is; given = refl };
   only = λ s n. n.given ∙ ap Ok (one_word bytes at n.word word n.is is);
 }
 
-pub rest_reads : (bytes : List ℕ) (at to : ℕ) → IsRest bytes at to → ReadsAs (rest bytes at) (Ok to)
+pub rest_reads : (bytes : List ℕ) (at to : ℕ) → IsRest bytes at to → ReadsOnly (rest bytes at) (Ok to)
 rest_reads bytes at to is = record {
   stands = record { to = to; is = is; given = refl };
   only = λ s n.

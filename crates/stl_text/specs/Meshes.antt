@@ -14,7 +14,7 @@ use Rattle.stl_text.specs.declared.Stl.{Stl}
 use Rattle.stl_text.specs.declared.Stl.TheVariants.{Binary, NoFacet}
 use Rattle.stl_text.specs.declared.parts.Part.TheVariants as Parts
 use Rattle.stl_text.specs.declared.found.Found.{Found}
-use Rattle.stl_text.specs.Reading.{Reading, gives, refuses, ◌>>=◌, choice, ReadsAs}
+use Rattle.stl_text.specs.Reading.{Reading, gives, refuses, ◌>>=◌, choice, ReadsOnly}
 use Rattle.stl_text.specs.Grammar.{opening, part}
 
 -- the little-endian number of the bytes 80 to 83
@@ -59,7 +59,7 @@ File bytes = choice (IsBinary bytes) (refuses Binary) (
     )
 
 abbrev pub MeshOf : List ℕ → List Facet → ℕ → Type 0
-MeshOf bytes facets dropped = ReadsAs (File bytes) (Ok (record { facets = facets; dropped = dropped }))
+MeshOf bytes facets dropped = ReadsOnly (File bytes) (Ok (record { facets = facets; dropped = dropped }))
 
 abbrev pub IsRefused : List ℕ → Stl → Type 0
-IsRefused bytes e = ReadsAs (File bytes) (Err e)
+IsRefused bytes e = ReadsOnly (File bytes) (Err e)

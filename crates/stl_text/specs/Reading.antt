@@ -6,7 +6,7 @@
 --   refuses e       this refusal
 --   m >>= k         what m reads and then what k reads from its value; a refusal of m stands. Written `a ← m`, then k
 --   choice C p q    p where C holds, q where it doesn't
---   ReadsAs m r       m reads r and nothing else
+--   ReadsOnly m r   m reads r and nothing else
 use Rattle.std.specs.Prelude.{◌≡◌, Result, Ok, Err}
 use Rattle.stl_text.specs.declared.Stl.{Stl}
 
@@ -34,6 +34,6 @@ pub data Choice {A : Type 0} (C : Type 0) (p q : Reading A) (r : Result A Stl) :
 abbrev pub choice : {A : Type 0} → Type 0 → Reading A → Reading A → Reading A
 choice C p q = Choice C p q
 
-pub record ReadsAs {A : Type 0} (m : Reading A) (r : Result A Stl) : Type 0 where
+pub record ReadsOnly {A : Type 0} (m : Reading A) (r : Result A Stl) : Type 0 where
   pub stands : m r
   pub only : (s : Result A Stl) → m s → s ≡ r

@@ -3,7 +3,7 @@
 ghost use Rattle.std.specs.Prelude.{◌≡◌, ◌≤◌, ◌<◌, length, IfOk, unsigned_abs};
 ghost use Rattle.seq_model.specs.Bounds.{IsNear, IsNearFacet};
 ghost use Rattle.stl_text.specs.Grammar.{text_of, keyword, any_word, number, vertex, normal, facet};
-ghost use Rattle.stl_text.specs.Reading.{ReadsAs};
+ghost use Rattle.stl_text.specs.Reading.{ReadsOnly};
 
 use crate::words::{is_spelled, next_word};
 use crate::{Keyword, Stl};
@@ -31,7 +31,7 @@ pub fn text_of(keyword: Keyword) -> &'static str
 /// The place behind the next word, which must be the keyword's.
 pub fn keyword(bytes: &[u8], at: usize, wanted: Keyword) -> Result<usize, Stl>
     requires { at ≤ length bytes.now }
-    ensures reads { ReadsAs (keyword bytes.now at wanted) result }
+    ensures reads { ReadsOnly (keyword bytes.now at wanted) result }
     ensures forward { IfOk result (λ to. at ≤ to) }
     ensures within { IfOk result (λ to. to ≤ length bytes.now) }
 {
@@ -46,7 +46,7 @@ pub fn keyword(bytes: &[u8], at: usize, wanted: Keyword) -> Result<usize, Stl>
 // The place behind the next word, whatever it is.
 fn any_word(bytes: &[u8], at: usize) -> Result<usize, Stl>
     requires { at ≤ length bytes.now }
-    ensures reads { ReadsAs (any_word bytes.now at) result }
+    ensures reads { ReadsOnly (any_word bytes.now at) result }
     ensures forward { IfOk result (λ to. at < to) }
     ensures within { IfOk result (λ to. to ≤ length bytes.now) }
 {
@@ -61,7 +61,7 @@ fn any_word(bytes: &[u8], at: usize) -> Result<usize, Stl>
 // A length in µm, and the place behind it.
 fn number(bytes: &[u8], at: usize) -> Result<(i64, usize), Stl>
     requires { at ≤ length bytes.now }
-    ensures reads { ReadsAs (number bytes.now at) result }
+    ensures reads { ReadsOnly (number bytes.now at) result }
     ensures forward { IfOk result (λ n. at ≤ n.1) }
     ensures within { IfOk result (λ n. n.1 ≤ length bytes.now) }
     ensures near { IfOk result (λ n. unsigned_abs n.0 ≤ FARTHEST) }
@@ -76,7 +76,7 @@ fn number(bytes: &[u8], at: usize) -> Result<(i64, usize), Stl>
 // A corner in µm, and the place behind it.
 fn vertex(bytes: &[u8], at: usize) -> Result<(Point3, usize), Stl>
     requires { at ≤ length bytes.now }
-    ensures reads { ReadsAs (vertex bytes.now at) result }
+    ensures reads { ReadsOnly (vertex bytes.now at) result }
     ensures forward { IfOk result (λ v. at ≤ v.1) }
     ensures within { IfOk result (λ v. v.1 ≤ length bytes.now) }
     ensures near { IfOk result (λ v. IsNear v.0) }
@@ -91,7 +91,7 @@ fn vertex(bytes: &[u8], at: usize) -> Result<(Point3, usize), Stl>
 // The place behind a normal, whose three words are skipped unread.
 fn normal(bytes: &[u8], at: usize) -> Result<usize, Stl>
     requires { at ≤ length bytes.now }
-    ensures reads { ReadsAs (normal bytes.now at) result }
+    ensures reads { ReadsOnly (normal bytes.now at) result }
     ensures forward { IfOk result (λ to. at < to) }
     ensures within { IfOk result (λ to. to ≤ length bytes.now) }
 {
@@ -104,7 +104,7 @@ fn normal(bytes: &[u8], at: usize) -> Result<usize, Stl>
 /// What stands behind the word `facet`, and the place behind that.
 pub fn facet(bytes: &[u8], at: usize) -> Result<(Facet, usize), Stl>
     requires { at ≤ length bytes.now }
-    ensures reads { ReadsAs (facet bytes.now at) result }
+    ensures reads { ReadsOnly (facet bytes.now at) result }
     ensures forward { IfOk result (λ f. at < f.1) }
     ensures within { IfOk result (λ f. f.1 ≤ length bytes.now) }
     ensures near { IfOk result (λ f. IsNearFacet f.0) }

@@ -5,7 +5,7 @@ ghost use Rattle.seq_model.specs.Bounds.{IsNearFacet};
 ghost use Rattle.seq_model.specs.declared.mesh.Facet.{Facet};
 ghost use Rattle.stl_text.specs.declared.Stl.{Stl};
 ghost use Rattle.stl_text.specs.Meshes.{IsBinary, MeshOf, IsRefused, body, nothing, count};
-ghost use Rattle.stl_text.specs.Reading.{ReadsAs};
+ghost use Rattle.stl_text.specs.Reading.{ReadsOnly};
 
 use crate::Stl;
 use crate::found::Found;
@@ -29,11 +29,11 @@ fn is_binary(bytes: &[u8]) -> bool
 // What stands in a file from the first line of its first solid on.
 fn body(alloc: Global, bytes: &[u8], first: usize) -> Result<Found, Stl>
     requires { first ≤ length bytes.now }
-    ensures found { IfOk result (λ found. ReadsAs (body bytes.now first nothing) (Ok found)) }
+    ensures found { IfOk result (λ found. ReadsOnly (body bytes.now first nothing) (Ok found)) }
     ensures few { IfOk result (λ found. count found ≤ MOST_FACETS) }
     ensures near { IfOk result (λ found. All IsNearFacet found.facets) }
     ensures refused { IfErr result
-        (λ e. (e ≡ Stl.NoMemory) ⊎ ReadsAs (body bytes.now first nothing) (Err e)) }
+        (λ e. (e ≡ Stl.NoMemory) ⊎ ReadsOnly (body bytes.now first nothing) (Err e)) }
 {
     let mut found = Found::nothing(alloc);
     let mut at = first;

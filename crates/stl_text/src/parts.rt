@@ -3,7 +3,7 @@
 ghost use Rattle.std.specs.Prelude.{◌≡◌, ◌≤◌, ◌<◌, length, IfOk, IfSome};
 ghost use Rattle.stl_text.specs.Grammar.{opening, closing, next_facet, part};
 ghost use Rattle.stl_text.specs.Progress.{ComesOn, PartFits};
-ghost use Rattle.stl_text.specs.Reading.{ReadsAs};
+ghost use Rattle.stl_text.specs.Reading.{ReadsOnly};
 
 use crate::facets::{facet, keyword};
 use crate::words::{is_spelled, next_word, rest_of_line};
@@ -22,7 +22,7 @@ pub enum Part {
 /// The place behind the first line of a solid.
 pub fn opening(bytes: &[u8], at: usize) -> Result<usize, Stl>
     requires { at ≤ length bytes.now }
-    ensures reads { ReadsAs (opening bytes.now at) result }
+    ensures reads { ReadsOnly (opening bytes.now at) result }
     ensures forward { IfOk result (λ to. at ≤ to) }
     ensures within { IfOk result (λ to. to ≤ length bytes.now) }
 {
@@ -33,7 +33,7 @@ pub fn opening(bytes: &[u8], at: usize) -> Result<usize, Stl>
 // What stands behind the word `endsolid`: the place behind the first line of the next solid, if there is one.
 fn closing(bytes: &[u8], at: usize) -> Result<Option<usize>, Stl>
     requires { at ≤ length bytes.now }
-    ensures reads { ReadsAs (closing bytes.now at) result }
+    ensures reads { ReadsOnly (closing bytes.now at) result }
     ensures comes_on { IfOk result (λ next. IfSome next (λ to. ComesOn bytes.now at to)) }
 {
     let line = rest_of_line(bytes, at);
@@ -48,7 +48,7 @@ fn closing(bytes: &[u8], at: usize) -> Result<Option<usize>, Stl>
 // What stands behind the word `facet`, `count` facets before it.
 fn next_facet(bytes: &[u8], at: usize, count: usize) -> Result<Part, Stl>
     requires { at ≤ length bytes.now }
-    ensures reads { ReadsAs (next_facet bytes.now at count) result }
+    ensures reads { ReadsOnly (next_facet bytes.now at count) result }
     ensures fits { IfOk result (λ part. PartFits bytes.now at count part) }
 {
     if count >= MOST_FACETS {
@@ -61,7 +61,7 @@ fn next_facet(bytes: &[u8], at: usize, count: usize) -> Result<Part, Stl>
 /// What stands next in a solid, `count` facets before it.
 pub fn next_part(bytes: &[u8], at: usize, count: usize) -> Result<Part, Stl>
     requires { at ≤ length bytes.now }
-    ensures reads { ReadsAs (part bytes.now at count) result }
+    ensures reads { ReadsOnly (part bytes.now at count) result }
     ensures fits { IfOk result (λ part. PartFits bytes.now at count part) }
 {
     let word = next_word(bytes, at);

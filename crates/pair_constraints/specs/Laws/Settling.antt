@@ -3,7 +3,7 @@
 --   AtZone job i zj j c       and this zone of the later one
 --   AtZones job i zi zj j c   and this zone of the earlier one
 --   Settles job P old new     the new list covers what P says, and what the old list covers
---   LeavesOut job by old new     what the new list has no more of the old one, this contact covers
+--   LeavesOut job by old new  what the new list has no more of the old one, this contact covers
 use Rattle.std.proofs.Common.{◌≡◌, ◌≢◌, ℕ, zero, suc, ◌+◌, ◌<◌, ◌≤◌, List, [], ◌∷◌, ◌++◌, length, get_or, remove, refl, sym, subst, ◌∙◌, arith, All, ◌⊎◌, inl, inr, ℤ, ◌≤ℤ◌}
 use Rattle.std.proofs.lemmas.Int.{ints}
 use Rattle.std.proofs.lemmas.Bool.{cases_lt}

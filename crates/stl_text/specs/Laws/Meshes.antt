@@ -8,10 +8,10 @@ use Rattle.std.proofs.Common.{◌≡◌, ℕ, List, Result, Ok, Err, refl, ap}
 use Rattle.seq_model.specs.declared.mesh.Facet.{Facet}
 use Rattle.stl_text.specs.declared.Stl.{Stl}
 use Rattle.stl_text.specs.declared.found.Found.{Found}
-use Rattle.stl_text.specs.Reading.{Reading, ReadsAs}
+use Rattle.stl_text.specs.Reading.{Reading, ReadsOnly}
 use Rattle.stl_text.specs.Meshes.{File, MeshOf, IsRefused}
 
-pub one_result : {A : Type 0} (m : Reading A) (r s : Result A Stl) → ReadsAs m r → ReadsAs m s → r ≡ s
+pub one_result : {A : Type 0} (m : Reading A) (r s : Result A Stl) → ReadsOnly m r → ReadsOnly m s → r ≡ s
 one_result m r s f g = g.only r f.stands
 
 same_found : (r : Result Found Stl) (x y : Found) → r ≡ Ok x → r ≡ Ok y → (x.facets ≡ y.facets) × (x.dropped ≡ y.dropped)
