@@ -48,7 +48,8 @@ fn work<S: Shelf>(alloc: Global, asked: &Asked, shelf: &mut S) -> Result<Answer,
     ensures why { IfErr result (Explains asked.now (S.shows shelf.old) (S.shows shelf.new)) }
 {
     let loaded = load(alloc, asked, shelf)?;
-    Ok(answer_of(alloc, asked.task, loaded)?)
+    let answer = answer_of(alloc, asked.task, loaded)?;
+    Ok(answer)
 }
 
 // Writes the line of refused words, which takes no memory.

@@ -13,12 +13,12 @@ answer_of-requires g c =
     let is : IsLoaded s.files a l.job l.plan l.notes = search rules in
     can_work_on s.files a l.job l.plan l.notes c.requires is
 
-pub returns-in-Ok-clause-answers : goal.returns-in-Ok-clause-answers
-returns-in-Ok-clause-answers g c =
+pub returns-clause-answers : goal.returns-clause-answers
+returns-clause-answers g c =
     let a = c.args.asked.now in
     let s : ShelfView = g.S.Shelf.shows c.args.shelf.now in
     let l = c.in_ok-loaded.loaded in
     let is : IsLoaded s.files a l.job l.plan l.notes = search rules in
-    let x = c.in-Ok.answer in
-    let e = c.in-Ok.ensures in
+    let x = c.in_ok-answer.answer in
+    let e = c.in_ok-answer.ensures in
     subst (λ ns. Answers s.files a x.verdict ns x.text) (sym e.notes) (answered s.files a l.job l.plan l.notes x.text x.verdict is e.prints)
