@@ -1,5 +1,5 @@
 -- The sums of the rows that a bound takes.
-use Rattle.std.proofs.Common.{◌≡◌, ℕ, zero, suc, ◌+◌, ◌*◌, ◌<◌, ◌≤◌, ◌^◌, ℤ, pos, neg_ℤ, ◌+ℤ◌, ◌*ℤ◌, ◌≤ℤ◌, List, [], ◌∷◌, length, get_or, drop, replicate, refl, sym, ap, subst, ◌∙◌, arith, All, ◌↔◌, ◌⊎◌, inl, inr, Bool, true, false, ltb}
+use Rattle.std.proofs.Common.{◌≡◌, ℕ, zero, suc, ◌+◌, ◌*◌, ◌<◌, ◌≤◌, ◌^◌, ℤ, pos, neg_ℤ, ◌+ℤ◌, ◌*ℤ◌, ◌≤ℤ◌, List, [], ◌∷◌, length, get_or, drop, refl, sym, ap, subst, ◌∙◌, arith, All, ◌↔◌, ◌⊎◌, inl, inr, Bool, true, false, ltb}
 use Rattle.std.proofs.lemmas.Int.{ints}
 use Rattle.std.proofs.lemmas.List.{get_or_default}
 use Rattle.std.proofs.Math.ListN.{get_or-eq_default}
@@ -11,15 +11,11 @@ use Rattle.seq_model.specs.declared.row.Row.{Row}
 use Rattle.seq_model.specs.Systems.{row_at, sum_constant, sum_coefficients}
 use Rattle.seq_model.specs.declared.tree.Mult.{Mult}
 use Rattle.bound_sums.specs.Sparse.{entry, AreAdded}
-use Rattle.bound_sums.proofs.Sums.{nothing_yet}
 
 -- of the first rows the sums are made, the others are still to come
 pub record AreSums (rows : List Row) (mults left : List Mult) (sums : List ℤ) (constant : ℤ) : Type 0 where
   pub coefficients : (v : ℕ) → entry sums v +ℤ entry (sum_coefficients rows left) v ≡ entry (sum_coefficients rows mults) v
   pub constants : constant +ℤ sum_constant rows left ≡ sum_constant rows mults
-
-pub none_summed : (rows : List Row) (mults : List Mult) (n : ℕ) → AreSums rows mults mults (replicate n (pos 0)) (pos 0)
-none_summed rows mults n = record { coefficients = λ v. rw (nothing_yet n v) (omega (arith, ints)); constants = omega (arith, ints) }
 
 pub one_summed : (rows : List Row) (mults left : List Mult) (m : Mult) (sums more : List ℤ) (constant now : ℤ) → AreSums rows mults (m ∷ left) sums constant
     → AreAdded m.times sums (row_at rows m.row).a more → now ≡ constant +ℤ m.times *ℤ (row_at rows m.row).c → AreSums rows mults left more now

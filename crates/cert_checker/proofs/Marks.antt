@@ -28,8 +28,6 @@ side_count-order (Choices.Before a b ∷ path) i j = side_count-order path i j
 side_count-order (Choices.Side contact dir ∷ path) i j = ap suc (side_count-order path i j)
 
 -- ---- rows
-pub no_rows : (job : Job) → AreRowsOf job [] []
-no_rows job = tt
 
 pub rows_cut : (job : Job) (k : ℕ) (path : List Choice) (rows : List SideRow) → AreRowsOf job path rows → AreRowsOf job (take k path) (take (side_count (take k path)) rows)
 rows_cut job zero path rows h = tt

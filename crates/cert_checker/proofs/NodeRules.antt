@@ -20,9 +20,7 @@ use Rattle.seq_model.specs.declared.tree.Node.{Node}
 use Rattle.seq_model.specs.declared.tree.Node.TheVariants as Nodes
 use Rattle.cert_checker.proofs.SystemRows.{length-rooms_of, short_rows, system_by_rows}
 use Rattle.cert_checker.specs.Judged.{IsOwnRule}
-use Rattle.cert_checker.specs.Kept.{IsStuck}
 use Rattle.cert_checker.specs.Rooms.{rooms_of}
-use Rattle.cert_checker.specs.Rules.{Breaks, Good}
 use Rattle.cert_checker.specs.Trails.{AreRowsOf}
 use Rattle.cert_checker.specs.declared.rules.Rule.{Rule}
 use Rattle.cert_checker.specs.declared.rules.Rule.TheVariants as rules
@@ -63,11 +61,3 @@ spelt_counted node mults handed is h s = let t = subst IsSpelt is s in subst (Al
 
 pub rule_of_node : (job : Job) (e : ℕ) (path : List Choice) (node same : Node) (o : Option Rule) → node ≡ same → IsOwnRule job e path same o → IsOwnRule job e path node o
 rule_of_node job e path node same o is h = subst (λ n. IsOwnRule job e path n o) (sym is) h
-
--- a node that breaks no rule of its own is a split that isn't stuck, or breaks the rule of its children
-pub stuck_breaks : (job : Job) (e : ℕ) (path : List Choice) (node : Node) → Good job e path node → IsStuck job node → Breaks job e path node rules.Children
-stuck_breaks job e path (Nodes.Order i j) g s = absurd s
-stuck_breaks job e path (Nodes.Side contact children) g s = inr (g.0.0, inr (g.0.1, inl (refl, s g.0.0)))
-stuck_breaks job e path (Nodes.Bound mults) g s = absurd s
-stuck_breaks job e path (Nodes.Cycle objects) g s = absurd s
-stuck_breaks job e path Nodes.Pending g s = absurd s

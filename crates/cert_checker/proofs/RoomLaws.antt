@@ -19,11 +19,6 @@ small size grid e s t g h =
     let high = share_high size grid e s g h in
     omega (arith, ints, low, high, t)
 
-pub small_width : (job : Job) (e : ℕ) (region : Region) → e ≤ job.printer.grid → region ≡ region_of job.printer.width job.printer.depth job.printer.grid e → unsigned_abs region.w < 2 ^ 46
-small_width job e region h is =
-    let r = job.printer.ranged in
-    subst (λ (q : Region). unsigned_abs q.w < 2 ^ 46) (sym is) (small job.printer.width job.printer.grid e r.width_low r.width_high r.grid_low h)
-
 pub small_height : (job : Job) (e : ℕ) (region : Region) → e ≤ job.printer.grid → region ≡ region_of job.printer.width job.printer.depth job.printer.grid e → unsigned_abs region.h < 2 ^ 46
 small_height job e region h is =
     let r = job.printer.ranged in

@@ -18,9 +18,6 @@ there path stamps i j d k l s c =
 pub is_there : (path : List Choice) (stamps : List ℕ) (i j : ℕ) (d : Choice) → stamp_at stamps i j < length path → get_or path (stamp_at stamps i j) d ≡ Choices.Before i j → Contains path (Choices.Before i j)
 is_there path stamps i j d h e = (stamp_at stamps i j, h, get_or_default path (stamp_at stamps i j) (Choices.Before i j) d h ∙ e)
 
-pub no_stamps : (stamps : List ℕ) → IsStamped [] stamps
-no_stamps stamps i j q d k l within at = absurd (omega (arith, within))
-
 -- a path that is cut back needs no other stamps
 pub cut_back : (path : List Choice) (stamps : List ℕ) (k : ℕ) → IsStamped path stamps → IsStamped (take k path) stamps
 cut_back path stamps k s i j q d a b within at =

@@ -18,17 +18,17 @@ use Rattle.cert_checker.specs.declared.rules.Rule.{Rule}
 use Rattle.cert_checker.specs.declared.rules.Rule.TheVariants as rules
 
 -- what holds is no broken rule
-held : (P later : Type 0) (r rule : Rule) → unless P r rule later → P → later
-held P later r rule (inl b) p = absurd (b.1 p)
-held P later r rule (inr l) p = l.1
+unless_later : (P later : Type 0) (r rule : Rule) → unless P r rule later → P → later
+unless_later P later r rule (inl b) p = absurd (b.1 p)
+unless_later P later r rule (inr l) p = l.1
 
 pub sound_breaks_none : (job : Job) (e : ℕ) (path : List Choice) (node : Node) (paths : List (List Choice)) (rule : Rule) → Good job e path node → AreChildren job path node paths → Breaks job e path node rule → ⊥
-sound_breaks_none job e path (Nodes.Order i j) paths rule g k b = held _ _ _ rule b g.0
+sound_breaks_none job e path (Nodes.Order i j) paths rule g k b = unless_later _ _ _ rule b g.0
 sound_breaks_none job e path (Nodes.Side contact children) paths rule g k b =
-    held _ _ _ rule (held _ _ _ rule (held _ _ _ rule b g.0.0) g.0.1) (k.0, k.1, k.2)
+    unless_later _ _ _ rule (unless_later _ _ _ rule (unless_later _ _ _ rule b g.0.0) g.0.1) (k.0, k.1, k.2)
 sound_breaks_none job e path (Nodes.Bound mults) paths rule g k b =
-    held _ _ _ rule (held _ _ _ rule (held _ _ _ rule b g.0.each) g.0.coefficients) g.0.constant
-sound_breaks_none job e path (Nodes.Cycle objects) paths rule g k b = held _ _ _ rule b g.0
+    unless_later _ _ _ rule (unless_later _ _ _ rule (unless_later _ _ _ rule b g.0.each) g.0.coefficients) g.0.constant
+sound_breaks_none job e path (Nodes.Cycle objects) paths rule g k b = unless_later _ _ _ rule b g.0
 sound_breaks_none job e path Nodes.Pending paths rule g k b = absurd g.1
 
 -- the nodes before a broken one are read in one way, and then it is at its path that it breaks the rule

@@ -1,11 +1,11 @@
 -- A chain that is read and cut at its end.
 use Rattle.std.proofs.Common.{◌≡◌, ℕ, ◌-◌, ◌+◌, length, get_or, take, take_all, List, [], ◌∷◌, ◌++◌, refl, ap, sym, ◌∙◌, arith, pos, ◌≤ℤ◌, ◌<ℤ◌, Bool, true, false, cond}
 use Rattle.std.proofs.lemmas.Int.{ints}
-use Rattle.std.proofs.lemmas.List.{take_more, reverse-append, get_or-take, length-take-le, reverse-reverse}
+use Rattle.std.proofs.lemmas.List.{take_more, reverse-append, get_or-take, length-take-le}
 use Rattle.std.specs.Prelude.{int_lt, reverse}
 use Rattle.seq_model.specs.declared.printer.Spot.{Spot}
 use Rattle.outline_laws.specs.Corners.{turn}
-use Rattle.outline_laws.specs.Chains.{fallen, without_first}
+use Rattle.outline_laws.specs.Chains.{fallen}
 
 last_read : (xs : List Spot) (k : ℕ) (d : Spot) → length xs ≡ k + 1 → reverse xs ≡ get_or xs k d ∷ reverse (take k xs)
 last_read xs k d h =
@@ -57,13 +57,3 @@ pub stays : (p x y : Spot) (xs : List Spot) (i j : ℕ) → i + 2 ≡ length xs 
 stays p x y xs i j hi hj e f t =
     let f' : y ≡ get_or xs (i + 1) y = f ∙ ap (λ n. get_or xs n y) (omega arith) in
     stays_at p x y xs i (sym hi) e f' t
-
--- a chain that gives its newest corner away
-pub given_away : (xs ys c : List Spot) (m : ℕ) → reverse xs ≡ c → m ≡ length xs - 1 → ys ≡ take m xs → ys ≡ reverse (without_first c)
-given_away [] ys c m e h g =
-    let none : take m [] ≡ [] = take_all m [] (omega arith) in
-    g ∙ none ∙ ap (λ l. reverse (without_first l)) e
-given_away (x ∷ xs) ys c m e h g =
-    let size : length (x ∷ xs) ≡ m + 1 = omega arith in
-    let read = sym (last_read (x ∷ xs) m x size) ∙ e in
-    g ∙ sym (reverse-reverse (take m (x ∷ xs))) ∙ ap (λ l. reverse (without_first l)) read

@@ -17,11 +17,11 @@ abbrev later : Choice → ℕ
 later (Choices.Before i j) = j
 later (Choices.Side c d) = 0
 
-pub two : Refutes two_cubes 100 (before 0 1 ∷ before 1 0 ∷ []) (Nodes.Cycle (0 ∷ 1 ∷ []) ∷ [])
-two = (((lit≤ tt, ((0, lit< tt, refl), ((1, lit< tt, refl), tt))), tt), [], refl, refl)
+pub two_cubes_refuted : Refutes two_cubes 100 (before 0 1 ∷ before 1 0 ∷ []) (Nodes.Cycle (0 ∷ 1 ∷ []) ∷ [])
+two_cubes_refuted = (((lit≤ tt, ((0, lit< tt, refl), ((1, lit< tt, refl), tt))), tt), [], refl, refl)
 
-pub three : Refutes three_cubes 100 (before 0 1 ∷ before 1 2 ∷ before 2 0 ∷ []) (Nodes.Cycle (0 ∷ 1 ∷ 2 ∷ []) ∷ [])
-three = (((lit≤ tt, ((0, lit< tt, refl), ((1, lit< tt, refl), ((2, lit< tt, refl), tt)))), tt), [], refl, refl)
+pub three_cubes_refuted : Refutes three_cubes 100 (before 0 1 ∷ before 1 2 ∷ before 2 0 ∷ []) (Nodes.Cycle (0 ∷ 1 ∷ 2 ∷ []) ∷ [])
+three_cubes_refuted = (((lit≤ tt, ((0, lit< tt, refl), ((1, lit< tt, refl), ((2, lit< tt, refl), tt)))), tt), [], refl, refl)
 
 -- 1 before 0 isn't on the path of 0 before 1
 not_back : Contains (before 0 1 ∷ []) (before 1 0) → ⊥

@@ -14,8 +14,8 @@ use Rattle.examples_model.specs.Plans.{beside_each_other, halves, in_the_far_cor
 use Rattle.examples_model.specs.Uneven.{uneven}
 use Rattle.examples_model.proofs.PlanLaws.{valid}
 
-four : All (LiesIn (region_of (pos 100) (pos 50) 100 100) (pos 2) (halves 0 158 58)) cube
-four = all_of (LiesIn (region_of (pos 100) (pos 50) 100 100) (pos 2) (halves 0 158 58)) cube (
+cube_lies : All (LiesIn (region_of (pos 100) (pos 50) 100 100) (pos 2) (halves 0 158 58)) cube
+cube_lies = all_of (LiesIn (region_of (pos 100) (pos 50) 100 100) (pos 2) (halves 0 158 58)) cube (
   record { west = le_z_yes tt; east = le_z_yes tt; south = le_z_yes tt; north = le_z_yes tt },
   (
     record { west = le_z_yes tt; east = le_z_yes tt; south = le_z_yes tt; north = le_z_yes tt },
@@ -24,8 +24,8 @@ four = all_of (LiesIn (region_of (pos 100) (pos 50) 100 100) (pos 2) (halves 0 1
 )
 
 corners_in : (b : ℕ) → b < 2 → All (LiesIn (region_of (pos 100) (pos 50) 100 100) (pos 2) (halves 0 158 58)) ((scene_of_job cube_on_a_narrow_plate).spots 0 b)
-corners_in zero h = four
-corners_in (suc zero) h = four
+corners_in zero h = cube_lies
+corners_in (suc zero) h = cube_lies
 corners_in (suc (suc b)) h = absurd (omega (arith, h))
 
 once_each : (o : ℕ) → o < 1 → count_by (λ (p : Place). nat_eq p.object o) (halves 0 158 58 ∷ []) ≡ 1

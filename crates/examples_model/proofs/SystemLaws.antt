@@ -24,8 +24,8 @@ no_contact c is = is.apart (only c.i c.j is.i_in is.j_in)
     only : (i j : ℕ) → i < 1 → j < 1 → i ≡ j
     only i j h k = omega (arith, h, k)
 
-three : IsMostSides cube_on_a_narrow_plate 3
-three = record { at_least = lit≤ tt; most = λ c n h. absurd (no_contact c h.is); reached = inl refl }
+three_sides : IsMostSides cube_on_a_narrow_plate 3
+three_sides = record { at_least = lit≤ tt; most = λ c n h. absurd (no_contact c h.is); reached = inl refl }
 
 is_three : (s : ℕ) → IsMostSides cube_on_a_narrow_plate s → s ≡ 3
 is_three s m = by m.reached
@@ -35,7 +35,7 @@ is_three s m = by m.reached
     by (inr h) = absurd (no_contact h.0 h.1.is)
 
 pub most_sides_of_one : (s : ℕ) → IsMostSides cube_on_a_narrow_plate s ↔ (s ≡ 3)
-most_sides_of_one s = (is_three s, λ e. subst (IsMostSides cube_on_a_narrow_plate) (sym e) three)
+most_sides_of_one s = (is_three s, λ e. subst (IsMostSides cube_on_a_narrow_plate) (sym e) three_sides)
 
 pub full_of_one : (n : ℕ) → Full cube_on_a_narrow_plate n ↔ (n ≡ 2)
-full_of_one n = (λ f. f.is ∙ ap (full_of cube_on_a_narrow_plate) (is_three f.s f.sides), λ e. record { s = 3; sides = three; is = e })
+full_of_one n = (λ f. f.is ∙ ap (full_of cube_on_a_narrow_plate) (is_three f.s f.sides), λ e. record { s = 3; sides = three_sides; is = e })

@@ -15,6 +15,7 @@ use Rattle.std.proofs.lemmas.List.Sums.{AllPass-from_list_all}
 use Rattle.std.specs.Prelude.{nat_le}
 use Rattle.std.specs.Int.Signed.{lt_z, le_z}
 use Rattle.std.specs.List.{list_all}
+use Rattle.std.proofs.lemmas.Bool.{and_parts}
 use lib.Dec.{T}
 use lib.Signed.{le_z_yes, lt_z_yes}
 use Rattle.seq_model.specs.Bounds.{IsNearSpot}
@@ -25,11 +26,6 @@ use Rattle.seq_model.specs.declared.printer.Spot.{Spot}
 use Rattle.seq_model.specs.declared.tree.Mult.{Mult}
 use Rattle.model_laws.specs.Turning.{StartsLeast, LeftAbout, TurnsLeft}
 use Rattle.model_laws.specs.Laws.Turning.{corners_by_list}
-
-pub both : (a b : Bool) → (a && b) ≡ true → (a ≡ true) × (b ≡ true)
-both true true e = (refl, refl)
-both true false e = absurd (subst T (sym e) tt)
-both false b e = absurd (subst T (sym e) tt)
 
 pub le_true : (a b : ℤ) → le_z a b ≡ true → a ≤ℤ b
 le_true a b e = le_z_yes (subst T (sym e) tt)
@@ -48,7 +44,7 @@ abbrev pub is_before : Spot → Spot → Bool
 is_before a b = le_z a.x b.x && (lt_z a.x b.x || lt_z a.y b.y)
 
 is_before_is : (a b : Spot) → is_before a b ≡ true → IsBefore a b
-is_before_is a b e = let r = both _ _ e in (le_true _ _ r.0, level (lt_z a.x b.x) refl r.1)
+is_before_is a b e = let r = and_parts _ _ e in (le_true _ _ r.0, level (lt_z a.x b.x) refl r.1)
   where
     never : a.x <ℤ b.x → a.x ≡ b.x → ⊥
     never h e = omega (arith, ints)
@@ -79,27 +75,27 @@ turns_left (a ∷ bs) = left_about a bs && turns_left bs
 left_about_is : (a : Spot) (C : List Spot) → left_about a C ≡ true → LeftAbout a C
 left_about_is a [] e = tt
 left_about_is a (b ∷ cs) e =
-    let r = both _ _ e in
+    let r = and_parts _ _ e in
     (λ k d l. lt_true _ _ (AllPass-from_list_all (λ c. lt_z (pos 0) (turn a b c)) cs r.0 k d l), left_about_is a cs r.1)
 
 turns_left_is : (C : List Spot) → turns_left C ≡ true → TurnsLeft C
 turns_left_is [] e = tt
 turns_left_is (a ∷ bs) e =
-    let r = both _ _ e in
+    let r = and_parts _ _ e in
     (left_about_is a bs r.0, turns_left_is bs r.1)
 
 abbrev pub are_corners : List Spot → Bool
 are_corners C = starts_least C && turns_left C
 
 pub are_corners_is : (C : List Spot) → are_corners C ≡ true → AreCorners C
-are_corners_is C e = let r = both _ _ e in corners_by_list C (starts_least_is C r.0) (turns_left_is C r.1)
+are_corners_is C e = let r = and_parts _ _ e in corners_by_list C (starts_least_is C r.0) (turns_left_is C r.1)
 
 abbrev pub are_near : ℕ → List Spot → Bool
 are_near n S = list_all (λ s. nat_le (unsigned_abs s.x) n && nat_le (unsigned_abs s.y) n) S
 
 pub are_near_is : (n : ℕ) (S : List Spot) → are_near n S ≡ true → All (IsNearSpot n) S
 are_near_is n S e = λ k d l.
-    let r = both _ _ (AllPass-from_list_all (λ s. nat_le (unsigned_abs s.x) n && nat_le (unsigned_abs s.y) n) S e k d l) in
+    let r = and_parts _ _ (AllPass-from_list_all (λ s. nat_le (unsigned_abs s.x) n && nat_le (unsigned_abs s.y) n) S e k d l) in
     record { x = nat_le_true _ _ r.0; y = nat_le_true _ _ r.1 }
 
 -- ---- contradictions
@@ -110,10 +106,10 @@ is_contradiction rows mults =
 
 pub contradiction_is : (rows : List Row) (mults : List Mult) → is_contradiction rows mults ≡ true → Contradiction rows mults
 contradiction_is rows mults e =
-    let one = both _ _ e in
-    let two = both _ _ one.1 in
+    let one = and_parts _ _ e in
+    let two = and_parts _ _ one.1 in
     record {
-      each = λ k d l. let r = both _ _ (AllPass-from_list_all (λ m. ltb m.row (length rows) && le_z (pos 0) m.times) mults one.0 k d l) in record { row = nat_lt_true _ _ r.0; times = le_true _ _ r.1 };
+      each = λ k d l. let r = and_parts _ _ (AllPass-from_list_all (λ m. ltb m.row (length rows) && le_z (pos 0) m.times) mults one.0 k d l) in record { row = nat_lt_true _ _ r.0; times = le_true _ _ r.1 };
       coefficients = λ k d l. le_true _ _ (AllPass-from_list_all (λ a. le_z a (pos 0)) (sum_coefficients rows mults) two.0 k d l);
       constant = lt_true _ _ two.1;
     }

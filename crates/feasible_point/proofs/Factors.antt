@@ -1,9 +1,9 @@
 -- The greatest number that divides all multipliers, one multiplier more.
-use Rattle.std.proofs.Common.{◌≡◌, ℕ, ◌+◌, ◌*◌, ◌<◌, ◌≤◌, List, [], ◌∷◌, ◌++◌, length, get_or, take, take_all, All, refl, ap, sym, subst, arith, ℤ, pos, ◌≤ℤ◌, unsigned_abs, inl}
+use Rattle.std.proofs.Common.{◌≡◌, ℕ, ◌+◌, ◌<◌, ◌≤◌, List, [], ◌∷◌, ◌++◌, length, get_or, take, take_all, All, refl, ap, sym, subst, arith, ℤ, pos, ◌≤ℤ◌, unsigned_abs, inl}
 use Rattle.std.proofs.lemmas.Int.{ints, by_lt_z}
 use Rattle.std.proofs.lemmas.List.{take_more}
-use Rattle.std.proofs.lemmas.List.Elements.{All-nil, All-push, All-head}
-use Rattle.std.proofs.Math.Nat.{dvd-mul_right, zero-dvd}
+use Rattle.std.proofs.lemmas.List.Elements.{All-push, All-head}
+use Rattle.std.proofs.Math.Nat.{zero-dvd}
 use Rattle.std.specs.Int.{◌∣◌}
 use Rattle.integer_laws.specs.Divisors.{IsGcdOf}
 use Rattle.integer_laws.specs.Laws.Divisors.{divides_gcd}
@@ -12,12 +12,6 @@ use Rattle.integer_laws.specs.Laws.Order.{one_le}
 use Rattle.row_pivots.specs.Laws.Turned.{divides_self}
 use Rattle.feasible_point.specs.Shortening.{Divides, IsFactor, IsTaking}
 use Rattle.seq_model.specs.declared.tree.Mult.{Mult}
-
-pub factor_none : (ms : List Mult) → IsFactor (take 0 ms) (pos 0)
-factor_none ms k = (λ h. All-nil (λ (m : Mult). k ∣ unsigned_abs m.times), λ h. subst (λ t. k ∣ t) (nothing k) (dvd-mul_right k 0))
-  where
-    nothing : (k : ℕ) → k * 0 ≡ 0
-    nothing k = omega arith
 
 pub factor_more : (ms : List Mult) (i : ℕ) (found g : ℤ) (d : Mult) → i < length ms → IsFactor (take i ms) found → IsGcdOf found (get_or ms i d).times g → IsFactor (take (i + 1) ms) g
 factor_more ms i found g d h c is k = (there, back)

@@ -3,6 +3,7 @@ use Rattle.std.proofs.Common.{◌≡◌, ℕ, ℤ, pos, ◌+ℤ◌, ◌-ℤ◌, 
 use Rattle.std.proofs.lemmas.Int.{ints}
 use Rattle.std.proofs.lemmas.List.Elements.{All-nil, All-cons, All-append}
 use Rattle.std.specs.Int.Signed.{lt_z, le_z}
+use Rattle.std.proofs.lemmas.Bool.{and_parts}
 use Rattle.integer_laws.specs.Laws.Order.{mul_le, mul_positive, add_le, le_from}
 use Rattle.integer_laws.specs.Laws.Ring.{expand}
 use Rattle.integer_laws.specs.Laws.Quotients.{floor_below, ceil_above, floor_le_ceil}
@@ -13,7 +14,7 @@ use Rattle.seq_model.specs.Bands.{vertex_in, crossing_up, crossing, crossings, f
 use Rattle.seq_model.specs.Outlines.{below, above, four_spots, spots}
 use Rattle.seq_model.specs.Points.{Point}
 use Rattle.seq_model.specs.Scenes.{Between}
-use Rattle.mesh_slices.proofs.Members.{all_flat, all_if, both}
+use Rattle.mesh_slices.proofs.Members.{all_flat, all_if}
 use borrow.Author.Differences.{product_is, lt-true}
 
 -- a vertex lies between the corners low and high, in x and in y
@@ -56,7 +57,7 @@ mean_below w a b x y d hx hy e ha hb = rw e (le_from (add_le (mul_le x hx ha) (m
 of_crossing_up : (low high : Point3) (h : ℤ) (p q : Point3) → Around low high p → Around low high q → All (AroundPoint low high) (crossing_up h p q)
 of_crossing_up low high h p q a b =
     all_if (AroundPoint low high) (lt_z p.z h && lt_z h q.z) (record { x = p.x *ℤ (q.z -ℤ h) +ℤ q.x *ℤ (h -ℤ p.z); y = p.y *ℤ (q.z -ℤ h) +ℤ q.y *ℤ (h -ℤ p.z); d = q.z -ℤ p.z }) (λ t.
-    let c = both (lt_z p.z h) (lt_z h q.z) t in
+    let c = and_parts (lt_z p.z h) (lt_z h q.z) t in
     let under = lt-true p.z h c.0 in
     let over = lt-true h q.z c.1 in
     let x : pos 0 ≤ℤ (q.z -ℤ h) = omega (arith, ints, under, over) in
@@ -88,8 +89,8 @@ of_facet low high from to f a =
     (All-append P (vertex_in from to f.b) (vertex_in from to f.c) (of_vertex low high from to f.b a.b) (of_vertex low high from to f.c a.c)))
     (All-append P (crossings from f) (crossings to f) (of_crossings low high from f a) (of_crossings low high to f a))
 
-four : (P : Spot → Type 0) (a b c d : Spot) → P a → P b → P c → P d → All P (a ∷ b ∷ c ∷ d ∷ [])
-four P a b c d pa pb pc pd = All-cons P a (b ∷ c ∷ d ∷ []) pa (All-cons P b (c ∷ d ∷ []) pb (All-cons P c (d ∷ []) pc (All-cons P d [] pd (All-nil P))))
+all_of_corners : (P : Spot → Type 0) (a b c d : Spot) → P a → P b → P c → P d → All P (a ∷ b ∷ c ∷ d ∷ [])
+all_of_corners P a b c d pa pb pc pd = All-cons P a (b ∷ c ∷ d ∷ []) pa (All-cons P b (c ∷ d ∷ []) pb (All-cons P c (d ∷ []) pc (All-cons P d [] pd (All-nil P))))
 
 -- the spots below and above the corners of the vertices
 abbrev pub spot_below : ℤ → ℤ → Point3 → Spot
@@ -108,7 +109,7 @@ of_four grain margin low high p g m a =
     let north : above margin p.y d ≤ℤ above margin high.y grain = omega (arith, ints, ceil_above p.y p.d grain high.y a.over g a.north) in
     let wide : below margin p.x d ≤ℤ above margin p.x d = omega (arith, ints, floor_le_ceil p.x d one, m) in
     let deep : below margin p.y d ≤ℤ above margin p.y d = omega (arith, ints, floor_le_ceil p.y d one, m) in
-    four (Between (spot_below grain margin low) (spot_above grain margin high))
+    all_of_corners (Between (spot_below grain margin low) (spot_above grain margin high))
     (record { x = below margin p.x d; y = below margin p.y d })
     (record { x = above margin p.x d; y = below margin p.y d })
     (record { x = below margin p.x d; y = above margin p.y d })

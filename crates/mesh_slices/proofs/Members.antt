@@ -20,7 +20,3 @@ all_flat P Q f h (x ∷ xs) all = All-append Q (f x) (flat_map f xs) (h x (all 0
 pub all_if : {X : Type 0} (P : X → Type 0) (b : Bool) (x : X) → (b ≡ true → P x) → All P (cond b (x ∷ []) [])
 all_if P true x h = All-cons P x [] (h refl) (All-nil P)
 all_if P false x h = All-nil P
-
-pub both : (a b : Bool) → (a && b) ≡ true → (a ≡ true) × (b ≡ true)
-both true b e = (refl, e)
-both false b e = absurd cc

@@ -32,9 +32,9 @@ points_pushed (q ∷ ps) p = ap (λ l. as_point q ∷ l) (points_pushed ps p)
 pub pushed : (old new : List CornerPoint) (p : CornerPoint) (found : List Point) → new ≡ old ++ p ∷ [] → found ≡ as_point p ∷ [] → points_of new ≡ points_of old ++ found
 pushed old new p found e f = ap points_of e ∙ points_pushed old p ∙ ap (λ l. points_of old ++ l) (sym f)
 
--- five lists, one after another
-pub five : (p0 p1 p2 p3 p4 p5 a b c l h : List Point) → p0 ≡ [] → p1 ≡ p0 ++ a → p2 ≡ p1 ++ b → p3 ≡ p2 ++ c → p4 ≡ p3 ++ l → p5 ≡ p4 ++ h → p5 ≡ (a ++ (b ++ c)) ++ (l ++ h)
-five p0 p1 p2 p3 p4 p5 a b c l h e0 e1 e2 e3 e4 e5 = rw (e5, e4, e3, e2, e1, e0) (simp append_assoc refl)
+-- lists, one appended after another
+pub append_in_turn : (p0 p1 p2 p3 p4 p5 a b c l h : List Point) → p0 ≡ [] → p1 ≡ p0 ++ a → p2 ≡ p1 ++ b → p3 ≡ p2 ++ c → p4 ≡ p3 ++ l → p5 ≡ p4 ++ h → p5 ≡ (a ++ (b ++ c)) ++ (l ++ h)
+append_in_turn p0 p1 p2 p3 p4 p5 a b c l h e0 e1 e2 e3 e4 e5 = rw (e5, e4, e3, e2, e1, e0) (simp append_assoc refl)
 
 -- ---- tests
 passes : (b : Bool) → T b → b ≡ true

@@ -18,20 +18,18 @@ use Rattle.seq_model.specs.Scenes.{Scene, SomeSpot, Spans, scene_of_files, descr
 use Rattle.integer_laws.specs.Members.{In}
 use Rattle.integer_laws.specs.Laws.Members.{In-from_contains, In-map, All-in, All-from_in}
 use Rattle.mesh_slices.specs.Objects.{spots_in}
+use Rattle.mesh_slices.specs.Cover.{vertices_of}
 use Rattle.mesh_slices.proofs.Members.{at_head, to_flat}
 use Rattle.mesh_slices.proofs.Running.{at, Running, reaches_least, reaches_greatest, least_below, greatest_above}
 use Rattle.mesh_slices.proofs.InBand.{band_of}
 use Rattle.mesh_slices.proofs.Holding.{Around, AroundFacet, spot_below, spot_above, all_between}
 use Rattle.std.proofs.Math.Dec.{T}
 
-abbrev three : Facet → List Point3
-three f = f.a ∷ f.b ∷ f.c ∷ []
-
 -- a vertex is a corner of a facet, and the corners of a facet are vertices
 pub record CornerOf (v : Point3) (facets : List Facet) : Type 0 where
   pub facet : Facet
   pub member : In facet facets
-  pub corner : In v (three facet)
+  pub corner : In v (vertices_of facet)
 
 later : (v : Point3) (f : Facet) (facets : List Facet) → CornerOf v facets → CornerOf v (f ∷ facets)
 later v f facets c = record { facet = c.facet; member = inr c.member; corner = c.corner }
@@ -43,11 +41,11 @@ corner_of v (f ∷ fs) (inr (inl e)) = record { facet = f; member = inl refl; co
 corner_of v (f ∷ fs) (inr (inr (inl e))) = record { facet = f; member = inl refl; corner = inr (inr (inl e)) }
 corner_of v (f ∷ fs) (inr (inr (inr h))) = later v f fs (corner_of v fs h)
 
-vertex_from : (v : Point3) (f : Facet) (facets : List Facet) → In f facets → In v (three f) → In v (vertices facets)
+vertex_from : (v : Point3) (f : Facet) (facets : List Facet) → In f facets → In v (vertices_of f) → In v (vertices facets)
 vertex_from v f [] h k = elim h [ ]
-vertex_from v f (g ∷ gs) (inl e) k = ahead (subst (λ t. In v (three t)) e k)
+vertex_from v f (g ∷ gs) (inl e) k = ahead (subst (λ t. In v (vertices_of t)) e k)
   where
-    ahead : In v (three g) → In v (vertices (g ∷ gs))
+    ahead : In v (vertices_of g) → In v (vertices (g ∷ gs))
     ahead (inl e) = inl e
     ahead (inr (inl e)) = inr (inl e)
     ahead (inr (inr (inl e))) = inr (inr (inl e))
@@ -84,14 +82,14 @@ passes false h = elim h [ ]
 vertex_there : (from to : ℤ) (v : Point3) → from ≤ℤ v.z → v.z ≤ℤ to → Contains (vertex_in from to v) (point_of v)
 vertex_there from to v h k = rw (passes (le_z from v.z) h.le, passes (le_z v.z to) k.le) (at_head (point_of v) [])
 
-facet_there : (from to : ℤ) (v : Point3) (f : Facet) → In v (three f) → from ≤ℤ v.z → v.z ≤ℤ to → Contains (facet_corners from to f) (point_of v)
+facet_there : (from to : ℤ) (v : Point3) (f : Facet) → In v (vertices_of f) → from ≤ℤ v.z → v.z ≤ℤ to → Contains (facet_corners from to f) (point_of v)
 facet_there from to v f m h k =
     Contains-append_left (vertex_in from to f.a ++ (vertex_in from to f.b ++ vertex_in from to f.c)) (crossings from f ++ crossings to f) (point_of v) (which m)
   where
     moved : (w : Point3) → v ≡ w → Contains (vertex_in from to w) (point_of v)
     moved w e = subst (λ t. Contains (vertex_in from to t) (point_of v)) e (vertex_there from to v h k)
 
-    which : In v (three f) → Contains (vertex_in from to f.a ++ (vertex_in from to f.b ++ vertex_in from to f.c)) (point_of v)
+    which : In v (vertices_of f) → Contains (vertex_in from to f.a ++ (vertex_in from to f.b ++ vertex_in from to f.c)) (point_of v)
     which (inl e) = Contains-append_left (vertex_in from to f.a) _ _ (moved f.a e)
     which (inr (inl e)) = Contains-append_right (vertex_in from to f.a) _ _ (Contains-append_left (vertex_in from to f.b) _ _ (moved f.b e))
     which (inr (inr (inl e))) = Contains-append_right (vertex_in from to f.a) _ _ (Contains-append_right (vertex_in from to f.b) _ _ (moved f.c e))

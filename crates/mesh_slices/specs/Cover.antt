@@ -1,7 +1,7 @@
 -- Points of a mesh, and outlines that cover a band of it.
 --
 --   SpacePoint                    the point x / d, y / d, z / d
---   three f                       the corners of a facet
+--   vertices_of f                 the corners of a facet
 --   LiesOn f q                    q is a point of the facet: a mean of its corners, with weights of at least 0, not all 0
 --   LiesInBand facets step b q    the height of q is that of band b, where the least z of the mesh is 0
 --   HasBand facets step q         the mesh has a band with the height of q
@@ -29,18 +29,18 @@ pub record SpacePoint : Type 0 where
   pub z : ℤ
   pub d : ℤ
 
-abbrev pub three : Facet → List Point3
-three f = f.a ∷ f.b ∷ f.c ∷ []
+abbrev pub vertices_of : Facet → List Point3
+vertices_of f = f.a ∷ f.b ∷ f.c ∷ []
 
 -- a mean of the facet's corners, by weights of at least 0, not all 0
 pub record LiesOn (f : Facet) (q : SpacePoint) : Type 0 where
   pub positive : pos 1 ≤ℤ q.d
   pub w : List ℤ
-  pub weights : AreWeights (pos 0) (three f) w
-  pub some : pos 1 ≤ℤ total (three f) w
-  pub x : q.d *ℤ weigh (λ p. p.x) (three f) w ≡ q.x *ℤ total (three f) w
-  pub y : q.d *ℤ weigh (λ p. p.y) (three f) w ≡ q.y *ℤ total (three f) w
-  pub z : q.d *ℤ weigh (λ p. p.z) (three f) w ≡ q.z *ℤ total (three f) w
+  pub weights : AreWeights (pos 0) (vertices_of f) w
+  pub some : pos 1 ≤ℤ total (vertices_of f) w
+  pub x : q.d *ℤ weigh (λ p. p.x) (vertices_of f) w ≡ q.x *ℤ total (vertices_of f) w
+  pub y : q.d *ℤ weigh (λ p. p.y) (vertices_of f) w ≡ q.y *ℤ total (vertices_of f) w
+  pub z : q.d *ℤ weigh (λ p. p.z) (vertices_of f) w ≡ q.z *ℤ total (vertices_of f) w
 
 -- heights count from the least z of the mesh, and band b goes from b*step to (b+1)*step
 pub record LiesInBand (facets : List Facet) (step : ℤ) (b : ℕ) (q : SpacePoint) : Type 0 where

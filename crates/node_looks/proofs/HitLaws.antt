@@ -44,13 +44,6 @@ settled_ordered site i j ordered there back = record {
 turned : (path : List Choice) (i j : ℕ) → IsUnordered path i j → IsUnordered path j i
 turned path i j free = (free.1, free.0)
 
-pub settled_free : (site : Site) (i j : ℕ) → IsUnordered site.path.now i j → (Hits site i j → ⊥) → (Hits site j i → ⊥)
-    → IsPairLook site i j PairLooks.Settled
-settled_free site i j free there back = record {
-  there = record { on_path = λ on hits. there hits; unordered = λ f hits. absurd (there hits) };
-  back = record { on_path = λ on hits. back hits; unordered = λ f hits. absurd (back hits) };
-}
-
 -- i collides with j and not the other way: j before i is forced
 pub forced_back : (site : Site) (i j : ℕ) → i < j → j < length site.job.now.objects → IsUnordered site.path.now i j → Hits site i j → (Hits site j i → ⊥)
     → IsPairLook site i j (PairLooks.Forced j i)

@@ -1,5 +1,5 @@
 -- What the solver's answers show at a node: a contradiction of a path's rows closes it, as a line of a certificate; a point is one of the path.
-use Rattle.std.proofs.Common.{◌≡◌, ℕ, suc, ◌+◌, ◌*◌, ◌<◌, ◌≤◌, ◌^◌, List, [], ◌∷◌, length, map, All, refl, sym, ap, ap₂, subst, ◌∙◌, arith, ℤ, pos, negsuc, ◌≤ℤ◌, ◌<ℤ◌, unsigned_abs}
+use Rattle.std.proofs.Common.{◌≡◌, ℕ, suc, ◌+◌, ◌*◌, ◌<◌, ◌≤◌, ◌^◌, List, [], ◌∷◌, length, map, All, refl, sym, ap, subst, ◌∙◌, arith, ℤ, pos, negsuc, ◌≤ℤ◌, ◌<ℤ◌, unsigned_abs}
 use Rattle.std.proofs.lemmas.Int.{ints}
 use Rattle.std.proofs.lemmas.List.{length-map}
 use Rattle.std.proofs.lemmas.List.Elements.{All-nil, All-cons, All-head, All-tail}
@@ -9,9 +9,8 @@ use Rattle.feasible_point.specs.Shortening.{AreShortest}
 use Rattle.integer_laws.specs.Vectors.{zeros}
 use Rattle.node_looks.proofs.RowLaws.{rows_few}
 use Rattle.node_looks.proofs.ZeroLaws.{zero_on}
-use Rattle.node_looks.specs.Looks.{ClosesBy, HasZeroPlan, zero_point}
+use Rattle.node_looks.specs.Looks.{ClosesBy, HasZeroPlan}
 use Rattle.seq_model.specs.Dictionaries.{Rises}
-use Rattle.seq_model.specs.Splits.{Values, IsOn}
 use Rattle.seq_model.specs.Systems.{system, Contradiction, MeetsRows}
 use Rattle.seq_model.specs.declared.job.Job.{Job}
 use Rattle.seq_model.specs.declared.row.Row.{Row}
@@ -74,24 +73,9 @@ bound_closes job e path mults short is rises times some few shortest = record {
     count = rows_few job e path (system job e path) refl short
 
 -- ---- points
-pub small_size : (d : ℤ) → pos 1 ≤ℤ d → d <ℤ pos (2 ^ 62) → unsigned_abs d < 2 ^ 62
-small_size d one small = omega (arith, ints, one, small)
 
 pub small_den : (d : ℤ) → pos 1 ≤ℤ d → unsigned_abs d < 2 ^ 62 → d <ℤ pos (2 ^ 62)
 small_den d one small = omega (arith, ints, one, small)
-
-pub point_on : (job : Job) (e : ℕ) (path : List Choice) (at : Values) (d : ℤ) (u : List ℤ) → at.d ≡ d → at.u ≡ u → MeetsRows (system job e path) d u → length u ≡ 2 * length job.objects
-    → IsOn job e path at
-point_on job e path at d u den nums meets many = record {
-  meets = subst (λ t. MeetsRows (system job e path) t at.u) (sym den) (subst (MeetsRows (system job e path) d) (sym nums) meets);
-  many = ap length nums ∙ many;
-}
-
-pub zero_values : (job : Job) (at : Values) (d : ℤ) (u : List ℤ) → at.d ≡ d → at.u ≡ u → d ≡ pos 1 → u ≡ zeros (2 * length job.objects) → at ≡ zero_point job
-zero_values job at d u den nums one none = ap₂ pair (den ∙ one) (nums ∙ none)
-  where
-    pair : ℤ → List ℤ → Values
-    pair d u = record { d = d; u = u }
 
 pub zero_meets : (job : Job) (e : ℕ) (path : List Choice) (rows : List Row) → rows ≡ system job e path → path ≡ [] → HasZeroPlan job e → MeetsRows rows (pos 1) (zeros (2 * length job.objects))
 zero_meets job e path rows same none h =

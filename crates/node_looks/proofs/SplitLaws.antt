@@ -1,12 +1,12 @@
 -- Leaves and splits meet what a look has to show.
-use Rattle.std.proofs.Common.{◌≡◌, ℕ, suc, ◌<◌, ◌≤◌, ◌^◌, List, [], ◌∷◌, ◌++◌, length, get_or, map, take, drop, All, length-append, refl, sym, ap, subst, ◌∙◌, arith, inl, inr}
+use Rattle.std.proofs.Common.{◌≡◌, ℕ, suc, ◌<◌, ◌≤◌, List, [], ◌∷◌, ◌++◌, length, get_or, map, take, drop, All, length-append, refl, sym, ap, subst, ◌∙◌, arith, inl, inr}
 use Rattle.std.proofs.lemmas.List.{length-map, get_or_default}
 use Rattle.std.proofs.lemmas.List.Elements.{AllZip-get_or, All-head, All-tail, All-push}
 use Rattle.std.proofs.lemmas.Slice.Zip.{AllZip-long}
 use Rattle.std.specs.List.{AllZip}
 use Rattle.cert_text.specs.TreeText.{IsSpeltContact}
 use Rattle.node_looks.specs.Candidates.{IsOpenable, choices_of}
-use Rattle.node_looks.specs.Looks.{IsVisit, ClosesBy, SplitsBy}
+use Rattle.node_looks.specs.Looks.{IsVisit, SplitsBy}
 use Rattle.node_looks.specs.Sites.{IsSite, values}
 use Rattle.node_looks.specs.declared.site.Site.{Site}
 use Rattle.pair_constraints.specs.Keeping.{IsKept}
@@ -18,8 +18,7 @@ use Rattle.search_laws.specs.Laws.FewSides.{few_at_contact}
 use Rattle.search_laws.specs.Laws.SideCounts.{three_at_contact}
 use Rattle.seq_model.specs.Contacts.{IsContact, points_of}
 use Rattle.seq_model.specs.Sides.{AreSides}
-use Rattle.seq_model.specs.Splits.{Earned}
-use Rattle.seq_model.specs.Trees.{also, IsCycle, IsSoundNode}
+use Rattle.seq_model.specs.Trees.{also, IsCycle}
 use Rattle.seq_model.specs.declared.job.Job.{Job}
 use Rattle.seq_model.specs.declared.tree.Choice.{Choice}
 use Rattle.seq_model.specs.declared.tree.Choice.TheVariants as Choices
@@ -108,22 +107,6 @@ opens site k n choices is may count are = subst (SplitsBy site.job.now site.exte
       few = omega (arith, many, few);
       spelt = (contact_fits job c may.kept.is, omega (arith, count, some), omega (arith, count, few));
     }
-
-pub order_splits : (job : Job) (e : ℕ) (path : List Choice) (i j : ℕ) (choices : List Choice) → choices ≡ Choices.Before i j ∷ Choices.Before j i ∷ [] → i < 2 ^ 32 → j < 2 ^ 32
-    → IsSoundNode job e path (Nodes.Order i j) → Earned job e path (Nodes.Order i j) → SplitsBy job e path (Nodes.Order i j) choices
-order_splits job e path i j choices are fits_i fits_j sound earned = subst (SplitsBy job e path (Nodes.Order i j)) (sym are) (record {
-  sound = sound;
-  earned = earned;
-  children = refl;
-  many = refl;
-  some = omega arith;
-  few = omega arith;
-  spelt = (fits_i, fits_j);
-})
-
-pub cycle_closes : (job : Job) (e : ℕ) (path : List Choice) (objects : List ℕ) → IsCycle (OnPath path) objects → length objects ≤ 16 → All (λ k. k < 2 ^ 32) objects
-    → ClosesBy job e path (Nodes.Cycle objects)
-cycle_closes job e path objects c few fits = record { is_leaf = tt; sound = c; spelt = (omega (arith, c.0), few, fits); takes = tt }
 
 -- ---- the neighbours of a cycle
 zip_from : (R : ℕ → ℕ → Type 0) (xs ys : List ℕ) → length ys ≡ length xs → ((m : ℕ) → m < length xs → R (get_or xs m 0) (get_or ys m 0)) → AllZip R xs ys

@@ -1,7 +1,7 @@
 -- What is seen of one pair more, and of all pairs.
 use Rattle.std.proofs.Common.{◌≡◌, ◌≢◌, ℕ, ◌+◌, ◌<◌, ◌≤◌, List, [], ◌∷◌, ◌++◌, length, Contains, Option, Some, None, IsSome, sym, subst, arith, inl, inr, ◌⊎◌}
 use Rattle.std.proofs.lemmas.Bool.{cases_lt}
-use Rattle.std.proofs.lemmas.List.Elements.{All-nil, All-push, Contains-append_left, Contains-append_right}
+use Rattle.std.proofs.lemmas.List.Elements.{All-push, Contains-append_left, Contains-append_right}
 use Rattle.integer_laws.specs.Laws.Members.{In-from_contains}
 use Rattle.model_laws.specs.Laws.Collisions.{collides_by_contact}
 use Rattle.node_looks.specs.Candidates.{IsCandidate, IsForcedOrder, IsSettledWay, IsSettled, IsPairLook, AreSettled, IsSurveyed}
@@ -89,13 +89,6 @@ next_object i j n a b all m (inl h) = by (cases_lt a i)
     by (inl k) = inl k
     by (inr k) = inr (omega (arith, h, k), omega (arith, m, all))
 next_object i j n a b all m (inr h) = let less = h.1 in absurd (omega (arith, less))
-
-pub survey_none : (site : Site) → IsSurveyed site 0 0 None []
-survey_none site = record { each = All-nil (IsForcedOrder site); found = λ a b l m before. never a b before }
-  where
-    never : (a b : ℕ) → ComesBefore a b 0 0 → IsSettled site [] a b
-    never a b (inl h) = absurd (omega (arith, h))
-    never a b (inr h) = let less = h.1 in absurd (omega (arith, less))
 
 pub survey_candidate : (site : Site) (i j : ℕ) (best : Option Candidate) (c : Candidate) (forced : List (ℕ × ℕ)) → IsSurveyed site i j best forced
     → best ≡ Some c → IsCandidate site c

@@ -87,8 +87,8 @@ at_goal before goal known has others = record {
 }
 
 -- one more object a, ordered before b, is known and todo
-pub found : (before : List ℕ) (goal : ℕ) (next : List (Option ℕ)) (known todo a b : ℕ) → IsSearch before goal next known todo → a < 16 → HasBefore before a b → (HasMember known a → ⊥) → HasMember todo b → (known' todo' : ℕ) → HasMember known' a → ((k : ℕ) → k ≢ a → HasMember known' k ↔ HasMember known k) → HasMember todo' a → ((k : ℕ) → k ≢ a → HasMember todo' k ↔ HasMember todo k) → IsSearch before goal (set next a (Some b)) known' todo'
-found before goal next known todo a b s fits order unknown due known' todo' in_known known_else in_todo todo_else =
+pub reach_one : (before : List ℕ) (goal : ℕ) (next : List (Option ℕ)) (known todo a b : ℕ) → IsSearch before goal next known todo → a < 16 → HasBefore before a b → (HasMember known a → ⊥) → HasMember todo b → (known' todo' : ℕ) → HasMember known' a → ((k : ℕ) → k ≢ a → HasMember known' k ↔ HasMember known k) → HasMember todo' a → ((k : ℕ) → k ≢ a → HasMember todo' k ↔ HasMember todo k) → IsSearch before goal (set next a (Some b)) known' todo'
+reach_one before goal next known todo a b s fits order unknown due known' todo' in_known known_else in_todo todo_else =
     let within : a < length next = omega (arith, s.long) in
     let b_known = (s.same b).0 (s.inner b due) in
     record {
@@ -125,10 +125,6 @@ shut_one before goal next known todo b s all todo' not_todo todo_else = record {
       (λ other. s.shut x y xy is (λ has. closed ((todo_else y other).1 has)))
       (cases_eq y b);
 }
-
--- once nothing is todo, what is ordered before a known object is known
-pub all_known : (before : List ℕ) (goal : ℕ) (next : List (Option ℕ)) (known todo : ℕ) → IsSearch before goal next known todo → ((k : ℕ) → HasMember todo k → ⊥) → AllKnown before next goal
-all_known before goal next known todo s none a b order is = (s.same a).0 (s.shut a b order ((s.same b).1 is) (none b))
 
 -- and so is what leads to the goal
 pub known_if_leads : (orders : List (ℕ × ℕ)) (before : List ℕ) (next : List (Option ℕ)) → AreNoted orders before → {a goal : ℕ} → Leads orders a goal → AllKnown before next goal → IsKnown next goal a

@@ -5,18 +5,11 @@ use Rattle.std.proofs.lemmas.List.{get_or_append_left, get_or_at, get_or-take, l
 use Rattle.std.proofs.lemmas.List.Elements.{All-append, All-contains, Contains-append_left, Contains-push, Contains-push_cases}
 use Rattle.object_orders.specs.Orders.{IsAmong, AreAmong, IsOrdered}
 use Rattle.order_graph.specs.Sets.{HasMember, HasBefore, AreBefore, AreNoted, AreFormer}
-use Rattle.order_graph.proofs.SetLaws.{nothing}
 
 zero_at : (n k : ℕ) → get_or {A = ℕ} (replicate n 0) k 0 ≡ 0
 zero_at zero k = refl
 zero_at (suc n) zero = refl
 zero_at (suc n) (suc k) = zero_at n k
-
-pub nothing_noted : (n : ℕ) → AreNoted [] (replicate n 0)
-nothing_noted n b a = (
-  λ has. absurd (nothing a (subst (λ s. HasMember s a) (zero_at n b) has)),
-  λ order. absurd (omega (arith, order.1)),
-)
 
 -- an order among these and one more
 ordered_cases : (orders : List (ℕ × ℕ)) (i j a b : ℕ) → IsOrdered (orders ++ (i, j) ∷ []) a b → IsOrdered orders a b ⊎ ((a ≡ i) × (b ≡ j))

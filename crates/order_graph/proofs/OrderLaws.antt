@@ -1,25 +1,12 @@
 -- An order that keeps all orders and a cycle of them exclude each other; and a cycle that an order closes shows what leads
 -- where.
-use Rattle.std.proofs.Common.{◌≡◌, ◌≢◌, ℕ, suc, ◌<◌, ◌≤◌, List, [], ◌∷◌, ◌++◌, length, get_or, take, drop, All, Contains, Result, Ok, Err, IsOk, IsErr, IfOk, IfErr, MatchResult, ◌↔◌, ◌⊎◌, inl, inr, ⊎_elim, refl, ap, sym, subst, ◌∙◌, arith}
+use Rattle.std.proofs.Common.{◌≡◌, ◌≢◌, ℕ, suc, ◌<◌, List, [], ◌∷◌, ◌++◌, length, get_or, take, drop, All, Contains, Result, Ok, Err, IsOk, IsErr, IfOk, IfErr, MatchResult, ◌↔◌, ◌⊎◌, inl, inr, ⊎_elim, refl, ap, sym, subst, ◌∙◌, arith}
 use Rattle.std.proofs.lemmas.Bool.{false≢true, cases_order}
 use Rattle.std.proofs.lemmas.List.{take-append-drop}
-use Rattle.std.proofs.lemmas.List.Elements.{All-nil, All-contains, All-contains_itself, All-weaker, All-push, All-take, Contains-append_left, Contains-push_cases}
+use Rattle.std.proofs.lemmas.List.Elements.{All-contains, All-contains_itself, All-weaker, All-push, All-take, Contains-append_left, Contains-push_cases}
 use Rattle.object_orders.specs.Orders.{IsAmong, IsGraph, Leads, IsOnce, IsWay, IsSimpleCycle, ClosesCycle, StandsBefore, IsOrder, HasCycle, HasOrder}
 use Rattle.order_graph.proofs.Lists.{few, full}
 use Rattle.order_graph.proofs.NoteLaws.{other_first}
-
-nothing_leads : {a b : ℕ} → Leads [] a b → ⊥
-nothing_leads (Leads.one a b order) = omega (arith, order.1)
-nothing_leads (Leads.more a k b order rest) = omega (arith, order.1)
-
--- a graph that holds no order
-pub no_order : (n : ℕ) → 1 ≤ n → n ≤ 16 → IsGraph n []
-no_order n some few = record {
-  some = some;
-  few = few;
-  among = All-nil (IsAmong n);
-  acyclic = λ cycle. nothing_leads cycle.1;
-}
 
 -- where no object stands twice, an object has one place
 one_place : (objects : List ℕ) (p q : ℕ) → IsOnce objects → p < length objects → q < length objects → get_or objects p 0 ≡ get_or objects q 0 → p ≡ q

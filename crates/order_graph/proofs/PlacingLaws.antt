@@ -1,5 +1,5 @@
 -- How the places of an order are filled, and what stands in the way.
-use Rattle.std.proofs.Common.{◌≡◌, ◌≢◌, ◌↔◌, ℕ, ◌+◌, ◌<◌, ◌≤◌, List, [], ◌∷◌, ◌++◌, length, get_or, set, take, reverse, replicate, Option, Some, None, IsSome, MatchOption, Contains, ⊎_elim, refl, sym, subst, ap, ◌∙◌, get_or-set_same, get_or-set_other, length-set, arith}
+use Rattle.std.proofs.Common.{◌≡◌, ◌≢◌, ◌↔◌, ℕ, ◌+◌, ◌<◌, ◌≤◌, List, [], ◌∷◌, ◌++◌, length, get_or, set, take, reverse, Option, Some, None, IsSome, MatchOption, Contains, ⊎_elim, refl, sym, subst, ap, ◌∙◌, get_or-set_same, get_or-set_other, length-set, arith}
 use Rattle.std.proofs.lemmas.Bool.{cases_eq, cases_lt, false≢true}
 use Rattle.std.proofs.lemmas.List.{length_push, length-reverse, get_or_append_left, get_or_at, get_or_default}
 use Rattle.std.proofs.lemmas.List.Elements.{Contains-get_or, All-contains_itself, All-weaker, Contains-append_left, Contains-push, Contains-push_cases}
@@ -8,7 +8,7 @@ use Rattle.object_orders.specs.Orders.{IsAmong, IsOnce, IsOrdered, EachNext, IsS
 use Rattle.order_graph.specs.Sets.{HasMember, HasBefore, AreNoted}
 use Rattle.order_graph.specs.Searches.{IsNext, IsNextBelow, IsWalk, ComesRound, IsFree, NoneFree, LeadsBack}
 use Rattle.order_graph.proofs.Lists.{room, once_push, once_reverse}
-use Rattle.order_graph.proofs.NextLaws.{no_next, next_cases}
+use Rattle.order_graph.proofs.NextLaws.{next_cases}
 use Rattle.order_graph.proofs.WayLaws.{EachNext-weaker, carried, round_back}
 
 -- a set below 2 ^ 16 has no object from 16 on
@@ -23,35 +23,12 @@ pub record AreTried (before : List ℕ) (left rest : ℕ) : Type 0 where
   pub inner : (k : ℕ) → HasMember rest k → HasMember left k
   pub tried : (k : ℕ) → HasMember left k → (HasMember rest k → ⊥) → (a : ℕ) × HasBefore before a k × HasMember left a
 
-pub untried : (before : List ℕ) (left : ℕ) → AreTried before left left
-untried before left = record { inner = λ k has. has; tried = λ k has gone. absurd (gone has) }
-
-pub one_tried : (before : List ℕ) (left rest k a : ℕ) → AreTried before left rest → HasBefore before a k → HasMember left a → (fewer : ℕ) → (HasMember fewer k → ⊥) → ((j : ℕ) → j ≢ k → HasMember fewer j ↔ HasMember rest j) → AreTried before left fewer
-one_tried before left rest k a t order has fewer gone others = record {
-  inner = λ j is. ⊎_elim (λ same. absurd (gone (subst (HasMember fewer) same is))) (λ apart. t.inner j ((others j apart).0 is)) (cases_eq j k);
-  tried = λ j is out. ⊎_elim
-      (λ same. (a, subst (HasBefore before a) (sym same) order, has))
-      (λ apart. t.tried j is (λ in_rest. out ((others j apart).1 in_rest)))
-      (cases_eq j k);
-}
-
-pub all_tried : (before : List ℕ) (left rest : ℕ) → AreTried before left rest → ((k : ℕ) → HasMember rest k → ⊥) → NoneFree before left
-all_tried before left rest t none k has = t.tried k has (none k)
-
 -- what is left over but for `rest` has as its next object one that is left and ordered before it
 pub record AreLinked (before : List ℕ) (left rest : ℕ) (next : List (Option ℕ)) : Type 0 where
   pub long : length next ≡ 16
   pub inner : (k : ℕ) → HasMember rest k → HasMember left k
   pub step : (b a : ℕ) → IsNext next b a → HasBefore before a b × HasMember left a
   pub some : (b : ℕ) → HasMember left b → (HasMember rest b → ⊥) → IsSome (get_or next b None)
-
-pub unlinked : (before : List ℕ) (left : ℕ) → AreLinked before left left (replicate 16 None)
-unlinked before left = record {
-  long = refl;
-  inner = λ k has. has;
-  step = λ b a is. absurd (no_next 16 b a is);
-  some = λ b has gone. absurd (gone has);
-}
 
 pub one_linked : (before : List ℕ) (left rest : ℕ) (next : List (Option ℕ)) (k both : ℕ) → AreLinked before left rest next → NoneFree before left → k < 16 → HasMember rest k → ((a : ℕ) → HasMember both a ↔ (HasBefore before a k × HasMember left a)) → (one : Option ℕ) → MatchOption one ((a : ℕ) → HasMember both a → ⊥) (λ a. (a < 16) × HasMember both a) → (fewer : ℕ) → (HasMember fewer k → ⊥) → ((j : ℕ) → j ≢ k → HasMember fewer j ↔ HasMember rest j) → AreLinked before left fewer (set next k one)
 one_linked before left rest next k both t none_free within has are None none fewer gone others =
@@ -73,9 +50,6 @@ one_linked before left rest next k both t none_free within has are (Some a) one 
           (cases_eq j k);
     }
 
-pub all_linked : (before : List ℕ) (left rest : ℕ) (next : List (Option ℕ)) → AreLinked before left rest next → ((k : ℕ) → HasMember rest k → ⊥) → LeadsBack before left next
-all_linked before left rest next t none = record { step = t.step; some = λ b has. t.some b has (none b) }
-
 pub backwards_below : (before : List ℕ) (left : ℕ) (next : List (Option ℕ)) → left < 65536 → LeadsBack before left next → IsNextBelow 16 next
 backwards_below before left next fits backwards b a is = fits_below left a fits (backwards.step b a is).1
 
@@ -88,14 +62,14 @@ no_end before left next start way backwards has walk =
     false≢true (subst IsSome walk.ends (backwards.some walk.last last_left))
 
 -- an object that isn't its own next one comes round over another
-two : (next : List (Option ℕ)) (first : ℕ) (rest objects : List ℕ) → objects ≡ first ∷ rest → (IsNext next first first → ⊥) → EachNext (IsNext next) (first ∷ rest ++ first ∷ []) → 2 ≤ length objects
-two next first [] objects whole apart round = absurd (apart round.0)
-two next first (x ∷ rest) objects whole apart round = let long : length objects ≡ length rest + 2 = ap length whole ∙ omega arith in omega arith
+ring_length : (next : List (Option ℕ)) (first : ℕ) (rest objects : List ℕ) → objects ≡ first ∷ rest → (IsNext next first first → ⊥) → EachNext (IsNext next) (first ∷ rest ++ first ∷ []) → 2 ≤ length objects
+ring_length next first [] objects whole apart round = absurd (apart round.0)
+ring_length next first (x ∷ rest) objects whole apart round = let long : length objects ≡ length rest + 2 = ap length whole ∙ omega arith in omega arith
 
 -- what comes round backwards is a cycle, last object first
 pub cycle_from_ring : (orders : List (ℕ × ℕ)) (before : List ℕ) (left : ℕ) (next : List (Option ℕ)) → AreNoted orders before → ((a b : ℕ) → HasBefore before a b → a ≢ b) → LeadsBack before left next → (objects : List ℕ) → ComesRound next objects → IsSimpleCycle orders (reverse objects)
 cycle_from_ring orders before left next noted apart backwards objects ring = record {
-  some = omega (arith, length-reverse objects, two next ring.first ring.rest objects ring.whole (λ is. apart ring.first ring.first (backwards.step ring.first ring.first is).0 refl) ring.round);
+  some = omega (arith, length-reverse objects, ring_length next ring.first ring.rest objects ring.whole (λ is. apart ring.first ring.first (backwards.step ring.first ring.first is).0 refl) ring.round);
   once = once_reverse objects ring.once;
   round = EachNext-weaker (λ x y. IsNext next y x) (IsOrdered orders) (λ a b is. (noted b a).0 (backwards.step b a is).0) _ (subst (λ xs. EachNext (λ x y. IsNext next y x) (reverse xs ++ take 1 (reverse xs))) (sym ring.whole) (round_back (IsNext next) ring.first ring.rest ring.round));
 }
@@ -126,14 +100,6 @@ pub record IsPlacing (n : ℕ) (before : List ℕ) (left : ℕ) (objects : List 
   pub listed : (k : ℕ) → Contains objects k ↔ ((k < n) × (HasMember left k → ⊥))
   pub once : IsOnce objects
   pub kept : (a b : ℕ) → HasBefore before a b → Contains objects b → StandsBefore objects a b
-
-pub none_placed : (n : ℕ) (before : List ℕ) (left : ℕ) → ((k : ℕ) → HasMember left k ↔ (k < n)) → IsPlacing n before left []
-none_placed n before left all = record {
-  within = λ k has. (all k).0 has;
-  listed = λ k. (λ has. absurd (omega (arith, has.1)), λ out. absurd (out.1 ((all k).1 out.0)));
-  once = λ i j d apart within. absurd (omega (arith, within));
-  kept = λ a b order has. absurd (omega (arith, has.1));
-}
 
 -- a free object stands after those that are placed
 pub placed_more : (n : ℕ) (before : List ℕ) (left : ℕ) (objects : List ℕ) (k : ℕ) → ((a b : ℕ) → HasBefore before a b → IsAmong n (a, b)) → IsPlacing n before left objects → IsFree before left k → (fewer : ℕ) → (HasMember fewer k → ⊥) → ((j : ℕ) → j ≢ k → HasMember fewer j ↔ HasMember left j) → IsPlacing n before fewer (objects ++ k ∷ [])

@@ -20,8 +20,8 @@ step {X} P B n below not m x l p = by (cases_lt m n)
     by (inl k) = below m x k p
     by (inr k) = not x (subst (λ o. P (o, x)) (let e : m ≡ n = omega (arith, k, l) in e) p)
 
-pub some : {X : Type 0} (P : ℕ × X → Type 0) (B : X → X → Type 0) (n : ℕ) (x : X) → Below P n → IsFirst (λ y. P (n, y)) B (Some x) → IsFirst P (Sooner B) (Some (n, x))
-some {X} P B n x below first = (first.0, λ y p s. by y p s)
+pub sooner_some : {X : Type 0} (P : ℕ × X → Type 0) (B : X → X → Type 0) (n : ℕ) (x : X) → Below P n → IsFirst (λ y. P (n, y)) B (Some x) → IsFirst P (Sooner B) (Some (n, x))
+sooner_some {X} P B n x below first = (first.0, λ y p s. by y p s)
   where
     by : (y : ℕ × X) → P y → Sooner B y (n, x) → ⊥
     by y p (inl l) = below y.0 y.1 l p
@@ -49,6 +49,3 @@ sooner_total {X} B total a b f g = whole (less_total a.0 b.0 (λ h. f (inl h)) (
 
 pub one_first : {X : Type 0} (P : X → Type 0) (B : X → X → Type 0) (x y : X) → IsTotal B → IsFirst P B (Some x) → IsFirst P B (Some y) → x ≡ y
 one_first P B x y total f g = total x y (λ h. g.1 x f.0 h) (λ h. f.1 y g.0 h)
-
-pub none_or_some : {X : Type 0} (P : X → Type 0) (B : X → X → Type 0) (x : X) → IsFirst P B None → IsFirst P B (Some x) → ⊥
-none_or_some P B x none some = none x some.0

@@ -11,7 +11,7 @@ use Rattle.std.proofs.lemmas.Bool.Decides.{nat_tests}
 use Rattle.std.proofs.lemmas.Int.{ints}
 use Rattle.std.specs.Prelude.{find, nat_le, MatchOption}
 use Rattle.integer_laws.specs.Laws.Ring.{expand}
-use Rattle.model_laws.specs.Laws.Collisions.{any_default, found, spots_of_zone, Zoned}
+use Rattle.model_laws.specs.Laws.Collisions.{any_default, find_some, spots_of_zone, Zoned}
 use Rattle.model_laws.specs.Laws.SamePoints.{mean_of_same, minus_is_point}
 use Rattle.outline_laws.specs.Laws.Overlaps.{inner_of_overlap, overlap_of_inner}
 use Rattle.seq_model.specs.Contacts.{difference, reaches_to, ZonesMeet}
@@ -26,7 +26,7 @@ use Rattle.seq_model.specs.declared.plan.Place.{Place}
 use Rattle.seq_model.specs.declared.printer.Part.{Part}
 use Rattle.seq_model.specs.declared.printer.Spot.{Spot}
 use Rattle.plan_audit.specs.Faults.{nth, IsHit, FirstHit}
-use Rattle.plan_audit.proofs.FirstLaws.{some}
+use Rattle.plan_audit.proofs.FirstLaws.{sooner_some}
 use Rattle.plan_audit.specs.Firsts.{IsFirst, Less, Sooner, Below}
 use Rattle.plan_audit.specs.Places.{gap}
 use Rattle.plan_audit.specs.Steps.{Holds, SomePairHits, PartHits, EarlierHits, LaterHits, HitsAt, hit_by}
@@ -42,7 +42,7 @@ zone_of job i b = by (find (holds_band b) (zones_of job i)) refl
     by : (o : Option Zone) → find (holds_band b) (zones_of job i) ≡ o → Zoned job i b ⊎ (corners_or_none (find (holds_band b) (zones_of job i)) ≡ [])
     by None e = inr (ap corners_or_none e)
     by (Some z) e =
-        let f = found b (zones_of job i) z e in
+        let f = find_some b (zones_of job i) z e in
         inl (record { z = f.place; known = f.in_list; low = subst (λ (y : Zone). y.first ≤ b) (sym (f.is no_zone)) f.low; high = subst (λ (y : Zone). b ≤ y.last) (sym (f.is no_zone)) f.high })
 
 none_inner : (q : Point) → Inner [] q → ⊥
@@ -105,7 +105,7 @@ pub later_band : (job : Job) (i j : ℕ) (q : Point) (band : ℕ) (s : ℕ × �
     → IsFirst (LaterHits (scene_of_job job) i j q) (Sooner (Sooner Less)) (Some (band, s))
 later_band job i j q band s os d known are less below f =
     let l : band < (object_at job j).bands = subst (λ (o : Object). band < o.bands) (any_default job.objects j d no_object known) (subst (λ (xs : List Object). band < (get_or xs j d).bands) are less) in
-    some (LaterHits (scene_of_job job) i j q) (Sooner Less) band s below ((l, f.0), λ y p b. f.1 y p.1 b)
+    sooner_some (LaterHits (scene_of_job job) i j q) (Sooner Less) band s below ((l, f.0), λ y p b. f.1 y p.1 b)
 
 -- ---- zones
 is_le : (a b : ℕ) → a ≤ b → nat_le a b ≡ true

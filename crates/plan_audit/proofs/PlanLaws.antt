@@ -29,8 +29,6 @@ use Rattle.plan_audit.proofs.BoxLaws.{off_or_box}
 use Rattle.plan_audit.proofs.FirstLaws.{less_total, sooner_total, one_first}
 
 -- ---- each object once
-objects : List Place → List ℕ
-objects places = map (λ (p : Place). p.object) places
 
 counted : (o : ℕ) (places : List Place) → count_by (λ (p : Place). nat_eq p.object o) places ≡ count_by (λ k. nat_eq k o) (map (λ (p : Place). p.object) places)
 counted o [] = refl

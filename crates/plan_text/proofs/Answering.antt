@@ -15,9 +15,6 @@ use Rattle.plan_text.proofs.Heads.{TakesHead, head_takes, head_again}
 use Rattle.plan_text.proofs.Bodies.{TakesBody, body_takes, body_again}
 
 -- ---- the steps of a file
-pub no_head : (bytes : List ℕ) (e : PlanRead) → head_at bytes ≡ Err e → file_at bytes ≡ Err e
-unfolding file_at
-no_head bytes e h = rw h refl
 
 pub with_body : (bytes rest : List ℕ) (state : State) (grid : ℕ) → head_at bytes ≡ Ok (state, grid, rest) → has_places state ≡ true → file_at bytes ≡ body_at state grid rest
 unfolding file_at

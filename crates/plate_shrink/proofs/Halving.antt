@@ -36,9 +36,6 @@ pub record IsShrunk (job : Job) (budget : ℕ) (best : Fitted) (failed : Option 
   pub below : failed_at failed < best.extent
   pub tried : IsFailed job budget failed
 
-pub starts : (job : Job) (budget : ℕ) (whole : Fitted) → IsFitted job job.printer.grid whole → IsShrunk job budget whole None
-starts job budget whole fitted = record { fitted = fitted; below = fitted.low; tried = tt }
-
 -- extents that may still be tried
 pub left_over : Fitted → Option Failed → ℕ
 left_over best failed = best.extent * 4294967296 + (best.extent - failed_at failed)

@@ -2,7 +2,7 @@
 use Rattle.std.proofs.Common.{◌≡◌, ℕ, ℤ, pos, ◌+ℤ◌, ◌-ℤ◌, ◌*ℤ◌, unsigned_abs, int_div, List, [], ◌∷◌, All, map, sym, ap, subst, ◌∙◌, arith}
 use Rattle.std.proofs.Math.Nat.{dvd-mul_right}
 use Rattle.std.proofs.lemmas.Int.{ints, unsigned_abs-mul}
-use Rattle.std.proofs.lemmas.List.Elements.{All-nil, All-cons, All-head, All-tail, All-weaker}
+use Rattle.std.proofs.lemmas.List.Elements.{All-nil, All-cons, All-head, All-tail}
 use Rattle.std.specs.Int.{◌∣◌}
 use Rattle.integer_laws.specs.Laws.Divisors.{exact_quotient}
 use Rattle.integer_laws.specs.Laws.Ring.{expand}
@@ -55,6 +55,3 @@ found_again job e fit shift plan moved found is valid roomy = subst (IsFound job
   places = places_spelt plan.scale shift plan.places found.places (subst (λ (p : Plan). All IsRoomy p.places) is roomy);
   reduced = record { one = λ d scale all. found.reduced.one d scale (places_divide d plan.scale shift plan.places scale all) };
 })
-
-pub all_roomy : (places : List Place) → All IsPlace places → All IsRoomy places
-all_roomy places all = All-weaker IsPlace IsRoomy (λ (p : Place) (is : IsPlace p). record { x = is.x; y = is.y }) places all

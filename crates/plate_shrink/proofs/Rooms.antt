@@ -4,13 +4,10 @@
 --   spread            a plan's edges don't cross
 --   shift_near        the move into the region of another extent is a short one
 --   valid_room        the numbers of a valid plan are below 2^90 in size
---   some_place        it has a place
 --   moved_found       a plan that was found is found again where it is moved into a region that it fits
 --   no_lower          and at no extent whose region is too small
 use Rattle.std.proofs.Common.{◌≡◌, ℕ, ◌+◌, ◌^◌, ◌<◌, ◌≤◌, ℤ, pos, neg_ℤ, ◌+ℤ◌, ◌-ℤ◌, ◌*ℤ◌, ◌≤ℤ◌, ◌<ℤ◌, unsigned_abs, List, [], ◌∷◌, length, get_or, All, Contains, refl, sym, ap, ◌∙◌, subst, arith}
 use Rattle.std.proofs.lemmas.Int.{ints, clamps}
-use Rattle.std.proofs.lemmas.List.Sums.{count_by-le-length}
-use Rattle.std.specs.Prelude.{nat_eq}
 use Rattle.std.proofs.lemmas.List.Elements.{All-contains, All-from_get_or, All-get_or}
 use Rattle.integer_laws.specs.Laws.Order.{add_le, le_from, mul_le}
 use Rattle.integer_laws.specs.Laws.Quotients.{ceil_is, floor_is, floor_le_ceil, floor_unique}
@@ -150,11 +147,6 @@ valid_room job e plan v small = All-from_get_or IsRoomy plan.places no_place
     (let known = All-get_or (λ (p : Place). p.object < length job.objects) plan.places k no_place l v.known in
     let inside = All-get_or (IsInside job e plan.scale) plan.places k no_place l v.inside in
     place_room job e plan.scale (get_or plan.places k no_place) v.to_grid v.scale small known (box_by_in job e plan.scale (get_or plan.places k no_place) known inside)))
-
-pub some_place : (job : Job) (e : ℕ) (plan : Plan) → Valid (scene_of_job job) e plan → 1 ≤ length plan.places
-some_place job e plan v =
-    let one = v.once 0 job.sound.some in
-    omega (arith, one, count_by-le-length (λ (p : Place). nat_eq p.object 0) plan.places)
 
 -- ---- the plan that is answered
 pub moved_found : (job : Job) (e f : ℕ) (plan moved : Plan) (a : Edges) (shift : Shift) → e ≤ job.printer.grid → 1 ≤ f → f ≤ e → IsFound job e plan → IsSpanOf job plan a → AreNarrow job f a

@@ -1,5 +1,5 @@
 -- The corners of a hull are those of a part, and what a loop over the listed parts keeps.
-use Rattle.std.proofs.Common.{◌≡◌, ℕ, ◌+◌, ◌<◌, ◌≤◌, ℤ, pos, ◌-ℤ◌, ◌*ℤ◌, ◌<ℤ◌, ◌≤ℤ◌, ◌↔◌, List, [], ◌∷◌, ◌++◌, length, take, drop, get_or, All, Contains, Some, Ok, Err, refl, sym, ap, ◌∙◌, subst, arith, inl, inr}
+use Rattle.std.proofs.Common.{◌≡◌, ℕ, ◌+◌, ◌<◌, ◌≤◌, ℤ, pos, ◌-ℤ◌, ◌*ℤ◌, ◌<ℤ◌, ◌≤ℤ◌, ◌↔◌, List, [], ◌∷◌, ◌++◌, length, take, drop, get_or, All, Contains, Some, Ok, refl, sym, ap, ◌∙◌, subst, arith, inl, inr}
 use Rattle.std.proofs.lemmas.Int.{ints}
 use Rattle.std.proofs.lemmas.List.{length-append, drop_all}
 use Rattle.std.proofs.lemmas.List.Elements.{All-nil, All-cons, All-append}
@@ -19,10 +19,9 @@ use Rattle.seq_model.specs.declared.printer.Spot.{Spot}
 use Rattle.toml.specs.Data.{Items, Members, as_table}
 use Rattle.toml.specs.View.{view, items_view}
 use Rattle.toml.specs.declared.value.Value.{Value}
-use Rattle.printer_text.specs.declared.Prn.{Prn}
 use Rattle.printer_text.specs.declared.top.Sizes.{Sizes}
 use Rattle.printer_text.specs.Outlines.{IsListedPart}
-use Rattle.printer_text.specs.Printers.{part_in, part_from, parts_behind, IsKept, AreKept, ArePartsOf}
+use Rattle.printer_text.specs.Printers.{part_in, parts_behind, IsKept, AreKept, ArePartsOf}
 use Rattle.printer_text.specs.Values.{count}
 use Rattle.printer_text.proofs.ItemLaws.{items_more}
 
@@ -208,12 +207,6 @@ goes_on sizes all vs i d kept t part k h b is read keep sound =
       number = omega (arith, long, number, step);
       sound = All-append IsSoundPart kept (k ∷ []) b.sound (All-cons IsSoundPart k [] sound (All-nil IsSoundPart));
     }
-
-pub stops_at : (sizes : Sizes) (all : Items) (vs : List Value) (i : ℕ) (d : Value) (kept : List Part) (e : Prn) → i < length vs → Behind sizes all (items_view (drop i vs)) (i + 1) kept
-    → part_from (i + 1) sizes (as_table (view (get_or vs i d))) ≡ Err e → parts_behind 1 sizes (tip ∷ []) all ≡ Err e
-stops_at sizes all vs i d kept e h b why =
-    let stop : parts_behind (i + 1) sizes b.parts (items_view (drop i vs)) ≡ Err e = rw (items_more vs i d h, why) refl in
-    sym b.reads ∙ stop
 
 pub ends : (sizes : Sizes) (all : Items) (vs : List Value) (i : ℕ) (kept : List Part) → length vs ≤ i → count all ≤ 12 → Behind sizes all (items_view (drop i vs)) (i + 1) kept → ArePartsOf sizes all kept
 ends sizes all vs i kept h few b =

@@ -129,9 +129,6 @@ split_takes Nodes.Pending some = tt
 leaf_closed : (leaf : Node) → IsLeaf leaf → leaf ≡ Nodes.Pending → ⊥
 leaf_closed leaf is e = subst IsLeaf e is
 
-leaf_of : Node → Made
-leaf_of leaf = record { node = leaf; first = 0 }
-
 others_open_leaf : (made : List Made) (paths : List (List Choice)) (at : ℕ) (leaf : Node) (open_nodes : List OpenNode) → (In at (numbers open_nodes) → ⊥)
     → AreOpen made paths open_nodes → AreOpen (with_leaf made at leaf) paths open_nodes
 others_open_leaf made paths at leaf [] apart held = tt

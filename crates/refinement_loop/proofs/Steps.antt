@@ -5,7 +5,7 @@ use Rattle.node_looks.specs.Looks.{ClosesBy, HasZeroPlan, IsLook, IsVisit, IsWid
 use Rattle.node_looks.specs.declared.looks.Look.{Look}
 use Rattle.node_looks.specs.declared.looks.Look.TheVariants as Looks
 use Rattle.refinement_loop.proofs.Answering.{refutes, spends, widens}
-use Rattle.refinement_loop.proofs.Searching.{IsPathOf, Searching, path_of_open, root, search_closes, search_splits, search_starts, search_widens}
+use Rattle.refinement_loop.proofs.Searching.{Searching, root, search_closes, search_splits, search_starts, search_widens}
 use Rattle.refinement_loop.proofs.Visits.{AreVisits, visits_are}
 use Rattle.refinement_loop.specs.Decisions.{IsRefutation, IsSpent, IsWideEnd}
 use Rattle.refinement_loop.specs.WideNodes.{first_wide}
@@ -15,7 +15,6 @@ use Rattle.refutation_tree.specs.Laws.Grows.{length_split}
 use Rattle.refutation_tree.specs.declared.growing.Made.{Made}
 use Rattle.search_agenda.specs.Agendas.{OpenNode, child_of}
 use Rattle.seq_model.specs.Budgets.{IsMostSides}
-use Rattle.seq_model.specs.Trees.{IsPath}
 use Rattle.seq_model.specs.declared.job.Job.{Job}
 use Rattle.seq_model.specs.declared.tree.Choice.{Choice}
 use Rattle.seq_model.specs.declared.tree.Node.{Node}
@@ -54,19 +53,6 @@ pub taken : (job : Job) (e budget : ℕ) (made : List Made) (open_nodes left : L
     → Deciding job e budget made open_nodes wide → open_nodes ≡ record { number = number; path = path } ∷ left
     → Searching job e budget made (record { number = number; path = path } ∷ left) wide
 taken job e budget made open_nodes left wide number path d head = subst (λ os. Searching job e budget made os wide) head d.search
-
-pub path_step : (job : Job) (e budget : ℕ) (made : List Made) (open_nodes left : List OpenNode) (wide : Option WideNode) (number : ℕ) (path there : List Choice)
-    → Deciding job e budget made open_nodes wide → open_nodes ≡ record { number = number; path = path } ∷ left → there ≡ path → IsPath job there
-path_step job e budget made open_nodes left wide number path there d head at =
-    let p : IsPathOf job budget number path = path_of_open job e budget made (record { number = number; path = path }) left wide (taken job e budget made open_nodes left wide number path d head) in
-    subst (IsPath job) (sym at) p.is
-
-pub short_step : (job : Job) (e budget : ℕ) (made : List Made) (open_nodes left : List OpenNode) (wide : Option WideNode) (number : ℕ) (path there : List Choice)
-    → Deciding job e budget made open_nodes wide → open_nodes ≡ record { number = number; path = path } ∷ left → there ≡ path → budget ≤ 1_000_000 → length there ≤ 1_000_000
-short_step job e budget made open_nodes left wide number path there d head at limit =
-    let p : IsPathOf job budget number path = path_of_open job e budget made (record { number = number; path = path }) left wide (taken job e budget made open_nodes left wide number path d head) in
-    let short = p.short in
-    subst (λ (t : List Choice). length t ≤ 1_000_000) (sym at) (omega (arith, short, limit))
 
 -- what was answered of the path that the search stands at
 pub record Looked (job : Job) (e : ℕ) (there : List Choice) (look : Look) : Type 0 where

@@ -14,7 +14,7 @@ use Rattle.row_laws.specs.Laws.Kernel.{Kernel, kernel, cancel_factor}
 use Rattle.row_pivots.specs.Laws.Measure.{place_is}
 use Rattle.row_pivots.specs.Laws.OneTable.{one_held, swapped_back}
 use Rattle.row_pivots.specs.Laws.Pivoting.{Line, get_or-map, get_or-In}
-use Rattle.row_pivots.specs.Laws.Sorted.{held, same_free, free_member, says_or}
+use Rattle.row_pivots.specs.Laws.Sorted.{table_is_form, same_free, free_member, says_or}
 use Rattle.row_pivots.specs.Laws.Turned.{set_members}
 use Rattle.row_pivots.specs.Tables.{Holds, Fresh, rising, place_of, line_or, entry_of}
 use Rattle.row_dictionary.specs.Laws.Found.{place_unique}
@@ -74,7 +74,7 @@ alone vars rows d basic free lines h into i = record { w = k.u; constant = const
     count = vars + length rows
 
     F : Form vars rows (rising (vars + length rows) basic)
-    F = (held vars rows d basic free lines h).form
+    F = (table_is_form vars rows d basic free lines h).form
 
     in_form : (y : ℕ) → In y free → In y (free_of (vars + length rows) (rising (vars + length rows) basic))
     in_form y j = subst (In y) (sym (same_free (vars + length rows) basic h.small_basic)) (free_member (vars + length rows) basic y (h.small_free y j) (h.apart y j))

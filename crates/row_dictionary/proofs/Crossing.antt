@@ -14,7 +14,7 @@ use Rattle.row_dictionary.specs.Mixing.{crossed_line, mixed_line, Narrow}
 use Rattle.row_dictionary.specs.declared.number.Mix.{Mix}
 use Rattle.row_dictionary.proofs.Narrowed.{rewritten_same, narrow_more, narrow_all}
 use Rattle.row_dictionary.proofs.Numbers.{at_map}
-use Rattle.row_dictionary.proofs.Skipping.{times_quotient}
+use Rattle.row_dictionary.proofs.Skipping.{nonzero, times_quotient}
 
 long_combined : (m : Mix) (zs ys : List ℤ) → length zs ≡ length ys → length (combined m.p m.q zs ys) ≡ length zs
 long_combined m zs ys l = let c = length-combined m.p m.q zs ys in omega (arith, c, l)
@@ -31,12 +31,9 @@ crossing_is m zs ys i d l h =
 pub turned_line : (m : Mix) (zs ys : List ℤ) → set (crossed_line m zs ys) m.place (int_div (m.d *ℤ m.q) m.g) ≡ mixed_line m zs ys
 turned_line m zs ys = sym (map-set (λ x. int_div x m.g) (combined m.p m.q zs ys) m.place (m.d *ℤ m.q))
 
-some : (g : ℤ) → 0 < unsigned_abs g → g ≡ pos 0 → ⊥
-some g h e = absurd (omega (arith, ints, h, ap unsigned_abs e))
-
 -- what leaves has no number there, and the divisor is the factor
 pub kept_crossing : (p q g z y : ℤ) → y ≡ pos 0 → p ≡ g → 0 < unsigned_abs g → int_div (p *ℤ z -ℤ q *ℤ y) g ≡ z
-kept_crossing p q g z y e f h = ap (λ t. int_div t g) (plain p q g z y e f) ∙ times_quotient g z (some g h)
+kept_crossing p q g z y e f h = ap (λ t. int_div t g) (plain p q g z y e f) ∙ times_quotient g z (nonzero g h)
   where
     plain : (p q g z y : ℤ) → y ≡ pos 0 → p ≡ g → p *ℤ z -ℤ q *ℤ y ≡ g *ℤ z
     plain p q g z y e f = rw (e, f) (left g z q)
@@ -46,7 +43,7 @@ kept_crossing p q g z y e f h = ap (λ t. int_div t g) (plain p q g z y e f) ∙
 
 -- neither line has a number there
 pub empty_crossing : (p q g z y : ℤ) → z ≡ pos 0 → y ≡ pos 0 → 0 < unsigned_abs g → int_div (p *ℤ z -ℤ q *ℤ y) g ≡ z
-empty_crossing p q g z y e f h = ap (λ t. int_div t g) (plain p q g z y e f) ∙ times_quotient g z (some g h)
+empty_crossing p q g z y e f h = ap (λ t. int_div t g) (plain p q g z y e f) ∙ times_quotient g z (nonzero g h)
   where
     plain : (p q g z y : ℤ) → z ≡ pos 0 → y ≡ pos 0 → p *ℤ z -ℤ q *ℤ y ≡ g *ℤ z
     plain p q g z y e f = rw (e, f) (left p q g)

@@ -13,13 +13,10 @@ use Rattle.row_dictionary.specs.Mixing.{mixed, mixed_numbers, IsCommon}
 use Rattle.row_dictionary.specs.declared.number.Mix.{Mix}
 use Rattle.row_dictionary.proofs.Numbers.{number_is, long_numbers}
 use Rattle.row_dictionary.proofs.Seats.{divisor_is}
-use Rattle.row_dictionary.proofs.Skipping.{times_quotient}
+use Rattle.row_dictionary.proofs.Skipping.{nonzero, times_quotient}
 
 is_here : (i k : ℕ) → nat_eq i k ≡ true → i ≡ k
 is_here i k e = grind (arith, nat_tests)
-
-some : (g : ℤ) → 0 < unsigned_abs g → g ≡ pos 0 → ⊥
-some g h e = absurd (omega (arith, ints, h, ap unsigned_abs e))
 
 -- what leaves has no number there
 alone : (m : Mix) (j : ℕ) (z y g : ℤ) → y ≡ pos 0 → m.p ≡ g → (j ≡ m.place → ⊥) → mixed m j z y ≡ g *ℤ z
@@ -36,7 +33,7 @@ alone m j z y g e p n = by (nat_eq j m.place) refl
             left g z q = simp expand (omega (arith, ints))
 
 pub kept_number : (m : Mix) (j : ℕ) (z y : ℤ) → y ≡ pos 0 → m.p ≡ m.g → (j ≡ m.place → ⊥) → 0 < unsigned_abs m.g → int_div (mixed m j z y) m.g ≡ z
-kept_number m j z y e p n g = ap (λ t. int_div t m.g) (alone m j z y m.g e p n) ∙ times_quotient m.g z (some m.g g)
+kept_number m j z y e p n g = ap (λ t. int_div t m.g) (alone m j z y m.g e p n) ∙ times_quotient m.g z (nonzero m.g g)
 
 rem_of_multiple : (g z : ℤ) → (g ≡ pos 0 → ⊥) → int_rem (g *ℤ z) g ≡ pos 0
 rem_of_multiple g z n = nothing (int_div (g *ℤ z) g) z g (int_rem (g *ℤ z) g) (times_quotient g z n) (quot-rem (g *ℤ z) g)

@@ -12,10 +12,7 @@ use Rattle.row_pivots.specs.Ends.{Small}
 use Rattle.row_dictionary.specs.Mixing.{mixed, mixed_line, IsLowered}
 use Rattle.row_dictionary.specs.declared.number.Mix.{Mix}
 use Rattle.row_dictionary.proofs.Numbers.{quotient_is, long_line}
-use Rattle.row_dictionary.proofs.Skipping.{times_quotient}
-
-some : (g : ℤ) → 0 < unsigned_abs g → g ≡ pos 0 → ⊥
-some g h e = absurd (omega (arith, ints, h, ap unsigned_abs e))
+use Rattle.row_dictionary.proofs.Skipping.{nonzero, times_quotient}
 
 abbrev pub low_of : Mix → Mix
 low_of m = record { d = m.d; p = int_div m.p m.g; q = int_div m.q m.g; g = pos 1; place = m.place }
@@ -27,7 +24,7 @@ by_one x = ap (λ t. int_div t (pos 1)) (once x) ∙ times_quotient (pos 1) x (�
     once x = simp expand
 
 lower_number : (m : Mix) (j : ℕ) (z y : ℤ) → 0 < unsigned_abs m.g → unsigned_abs m.g ∣ unsigned_abs m.p → unsigned_abs m.g ∣ unsigned_abs m.q → int_div (mixed (low_of m) j z y) (pos 1) ≡ int_div (mixed m j z y) m.g
-lower_number m j z y g p q = by_one (mixed (low_of m) j z y) ∙ sym (ap (λ t. int_div t m.g) (by (nat_eq j m.place)) ∙ times_quotient m.g (mixed (low_of m) j z y) (some m.g g))
+lower_number m j z y g p q = by_one (mixed (low_of m) j z y) ∙ sym (ap (λ t. int_div t m.g) (by (nat_eq j m.place)) ∙ times_quotient m.g (mixed (low_of m) j z y) (nonzero m.g g))
   where
     corner : (d q g t : ℤ) → q ≡ g *ℤ t → d *ℤ q ≡ g *ℤ (d *ℤ t)
     corner d q g t e = rw e (moved d g t)

@@ -14,7 +14,7 @@ use Rattle.row_pivots.specs.Growing.{row_line}
 use Rattle.row_pivots.specs.Laws.Grown.{grown, length-more}
 use Rattle.row_pivots.specs.Laws.Measure.{place_is, content_divides}
 use Rattle.row_pivots.specs.Laws.Shrunk.{Removed, removed, shrunk}
-use Rattle.row_pivots.specs.Laws.Sorted.{held, rising_members, says_long}
+use Rattle.row_pivots.specs.Laws.Sorted.{table_is_form, rising_members, says_long}
 use Rattle.row_pivots.specs.Laws.Turned.{divides_self}
 use Rattle.row_pivots.specs.Steps.{content_of}
 use Rattle.row_pivots.specs.Tables.{Holds, Held, rising, place_of}
@@ -72,10 +72,10 @@ one_den vars rows d e basic free others gone L M h k there back =
     count = vars + length rows
 
     F : Held vars rows d basic free L
-    F = held vars rows d basic free L h
+    F = table_is_form vars rows d basic free L h
 
     G : Held vars rows e others gone M
-    G = held vars rows e others gone M k
+    G = table_is_form vars rows e others gone M k
 
     same : rising (vars + length rows) basic ≡ rising (vars + length rows) others
     same = same_rising (vars + length rows) basic others

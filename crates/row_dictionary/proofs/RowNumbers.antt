@@ -78,12 +78,6 @@ sum_upto k j d basic free lines row vars = dot (take (k + 1) (row.c ∷ row.a)) 
 long_columns : (vars j : ℕ) (d : ℤ) (basic free : List ℕ) (lines : List (List ℤ)) → length (column j (row_lines vars d basic free lines)) ≡ suc vars
 long_columns vars j d basic free lines = ap suc (length-map (map (line_over d basic free lines) (range_with_len 0 vars)) (λ (v : List ℤ). get_or v j (pos 0)) ∙ length-map (range_with_len 0 vars) (line_over d basic free lines) ∙ length-range_with_len 0 vars)
 
-pub sum_first : (j : ℕ) (d : ℤ) (basic free : List ℕ) (lines : List (List ℤ)) (row : Row) → j < suc (length free) → row.c *ℤ (if nat_eq j 0 then d else pos 0) ≡ sum_upto 0 j d basic free lines row (length row.a)
-sum_first j d basic free lines row h = ap (λ t. row.c *ℤ t) (sym (unit_number (suc (length free)) 0 j d h)) ∙ plain (row.c *ℤ get_or (unit_line (suc (length free)) 0 d) j (pos 0))
-  where
-    plain : (p : ℤ) → p ≡ p +ℤ pos 0
-    plain p = omega (arith, ints)
-
 range_at : (low n k : ℕ) → k < n → get_or (range_with_len low n) k 0 ≡ low + k
 range_at low zero k h = absurd (omega (arith, h))
 range_at low (suc n) zero h = omega arith

@@ -33,21 +33,21 @@ times_quotient g z n = differ (cancel_factor g (int_div (g *ℤ z) g -ℤ z) n (
 is_here : (i k : ℕ) → nat_eq i k ≡ true → i ≡ k
 is_here i k e = grind (arith, nat_tests)
 
-some : (g : ℤ) → 0 < unsigned_abs g → g ≡ pos 0 → ⊥
-some g h e = absurd (omega (arith, ints, h, ap unsigned_abs e))
+pub nonzero : (g : ℤ) → 0 < unsigned_abs g → g ≡ pos 0 → ⊥
+nonzero g h e = absurd (omega (arith, ints, h, ap unsigned_abs e))
 
 one_number : (m : Mix) (j : ℕ) (z y : ℤ) → m.q ≡ pos 0 → m.p ≡ m.g → 0 < unsigned_abs m.g → (j ≡ m.place → z ≡ pos 0) → int_div (mixed m j z y) m.g ≡ z
 one_number m j z y q p g at = by (nat_eq j m.place) refl
   where
     by : (b : Bool) → nat_eq j m.place ≡ b → int_div (if b then m.d *ℤ m.q else m.p *ℤ z -ℤ m.q *ℤ y) m.g ≡ z
-    by true e = ap (λ t. int_div t m.g) (nothing m.d m.q z m.g q (at (is_here j m.place e))) ∙ times_quotient m.g z (some m.g g)
+    by true e = ap (λ t. int_div t m.g) (nothing m.d m.q z m.g q (at (is_here j m.place e))) ∙ times_quotient m.g z (nonzero m.g g)
       where
         nothing : (d q z g : ℤ) → q ≡ pos 0 → z ≡ pos 0 → d *ℤ q ≡ g *ℤ z
         nothing d q z g e f = rw (e, f) (zeros d g)
           where
             zeros : (d g : ℤ) → d *ℤ pos 0 ≡ g *ℤ pos 0
             zeros d g = simp expand
-    by false e = ap (λ t. int_div t m.g) (plain m.p m.q m.g z y q p) ∙ times_quotient m.g z (some m.g g)
+    by false e = ap (λ t. int_div t m.g) (plain m.p m.q m.g z y q p) ∙ times_quotient m.g z (nonzero m.g g)
       where
         plain : (p q g z y : ℤ) → q ≡ pos 0 → p ≡ g → p *ℤ z -ℤ q *ℤ y ≡ g *ℤ z
         plain p q g z y e f = rw (e, f) (left g z y)

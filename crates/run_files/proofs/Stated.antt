@@ -13,10 +13,9 @@ use Rattle.seq_io.specs.Files.{GivesFile}
 use Rattle.seq_io.specs.declared.mem_file.MemFile.{MemFile}
 use Rattle.seq_model.specs.declared.tree.Tree.{Tree}
 use Rattle.run_files.specs.Causes.{HasNoBlock}
-use Rattle.run_files.specs.Files.{HasNamedPlan, IsOnlyPlan, StatesPlan}
+use Rattle.run_files.specs.Files.{StatesPlan}
 use Rattle.run_files.specs.Plans.{IsBlockOf, IsOnlyBy, IsStatedBy, reads_block}
 use Rattle.run_files.specs.declared.plans.GivenPlan.{GivenPlan}
-use Rattle.run_files.specs.declared.words.Asked.{Asked}
 use Rattle.run_files.specs.declared.words.Task.{Task}
 
 -- ---- a block is read as one thing, and none that is refused
@@ -81,19 +80,3 @@ pub one_named : (files : Option (List MemFile)) (task : Task) (name bytes : List
 one_named files task name bytes plan gives only told other is s =
     let here : GivesFile (Some told) name bytes = subst (λ fs. GivesFile fs name bytes) is gives in
     only other (subst (λ b. IsStatedBy task b other) (s.gives ∙ sym here) s.is)
-
-no_other : (told : List MemFile) (task : Task) (named : Option (List ℕ)) (other : Option GivenPlan) → named ≡ None → HasNamedPlan (Some told) task named other → other ≡ None
-no_other told task None None e h = refl
-no_other told task None (Some p) e h = absurd h
-no_other told task (Some name) other e h = absurd (cc e)
-
-pub none_named : (files : Option (List MemFile)) (a : Asked) → a.plan ≡ None → IsOnlyPlan files a None
-none_named files a is = record { same = λ told same other h. no_other told a.task a.plan other is h }
-
-pub some_named : (files : Option (List MemFile)) (a : Asked) (plan : GivenPlan) (name : List ℕ) → a.plan ≡ Some name
-    → ((told : List MemFile) (other : GivenPlan) → files ≡ Some told → StatesPlan (Some told) a.task name other → other ≡ plan) → IsOnlyPlan files a (Some plan)
-some_named files a plan name is only = record { same = λ told same other h. by told same other (subst (λ n. HasNamedPlan (Some told) a.task n other) is h) }
-  where
-    by : (told : List MemFile) → files ≡ Some told → (other : Option GivenPlan) → HasNamedPlan (Some told) a.task (Some name) other → other ≡ Some plan
-    by told same None h = absurd h
-    by told same (Some p) h = ap Some (only told p same h)

@@ -53,10 +53,6 @@ pushed s t key w keys new u none kept e = record {
     yes : IsSome (Some w)
     yes = refl
 
--- a key whose slab gained another one keeps its values
-pub unmoved : (s t : Slab Waiting) (key : ℕ) (w : Waiting) (keys : List ℕ) → Updates s t key (Some w) → get s key ≡ None → AreKept s keys → AreKept t keys × (values_at t keys ≡ values_at s keys)
-unmoved s t key w keys u none kept = (same_kept s t key (Some w) keys u (vacant s key keys none kept) kept, same_values s t key (Some w) keys u (vacant s key keys none kept))
-
 pub record Taken (s t : Slab Waiting) (keys left : List ℕ) (found : Option Waiting) : Type 0 where
   pub kept : AreKept t (reverse left)
   pub some : IsSome found

@@ -22,11 +22,6 @@ minus_zero bs ds e z (negsuc n) s =
     let same : decimal (suc n) ≡ decimal 0 = cc in
     omega (arith, same_number (suc n) 0 (omega (arith, s.small)) (omega arith) same)
 
--- without a `-` the bytes are the digits of a number, or spell none
-pub plain_none : (bs : List ℕ) → (get_or bs 0 0 ≡ 45 → ⊥) → ((m : ℕ) → m < 2 ^ 100 → bs ≡ decimal m → ⊥) → (n : ℤ) → Spells bs n → ⊥
-plain_none bs first none (pos n) s = none n s.small s.is
-plain_none bs first none (negsuc n) s = first (ap (λ l. get_or l 0 0) s.is)
-
 pub same_spelling : (a b : ℤ) → unsigned_abs a < 2 ^ 100 → unsigned_abs b < 2 ^ 100 → spelling a ≡ spelling b → a ≡ b
 same_spelling (pos m) (pos n) h k e = ap pos (same_number m n (omega arith) (omega arith) e)
 same_spelling (pos m) (negsuc n) h k e = absurd (no_minus (decimal m) (decimal (suc n)) m (omega arith) e refl)

@@ -1,22 +1,19 @@
--- Scenes that agree have the same first fault of a plan; and what an audit asks of a plan that was read.
-use Rattle.std.proofs.Common.{◌≡◌, ℕ, zero, suc, ◌+◌, ◌<◌, ◌≤◌, ◌^◌, ℤ, pos, ◌≤ℤ◌, ◌<ℤ◌, ◌⊎◌, inl, inr, unsigned_abs, List, [], ◌∷◌, length, All, Bool, true, false, Option, Some, None, refl, sym, ap, subst, arith}
+-- Scenes that agree have the same first fault of a plan.
+use Rattle.std.proofs.Common.{◌≡◌, ℕ, zero, suc, ◌+◌, ◌<◌, ◌≤◌, ℤ, ◌≤ℤ◌, ◌<ℤ◌, ◌⊎◌, inl, inr, List, [], ◌∷◌, length, All, Option, Some, None, refl, sym, ap, subst, arith}
 use Rattle.std.proofs.lemmas.Bool.{cases_lt}
 use Rattle.std.proofs.lemmas.Int.{ints, by_lt_z}
 use Rattle.std.proofs.lemmas.List.Elements.{All-nil, All-cons}
 use Rattle.std.specs.List.{AllZip}
 use Rattle.std.specs.Prelude.{MatchOption, slice_index_or}
 use Rattle.integer_laws.specs.Members.{In}
-use Rattle.integer_laws.specs.Laws.Members.{All-from_in, All-in, Contains-from_in, In-from_contains}
+use Rattle.integer_laws.specs.Laws.Members.{All-in, Contains-from_in, In-from_contains}
 use Rattle.mesh_slices.specs.Agreement.{Agree, SamePart}
 use Rattle.mesh_slices.specs.Laws.Agreeing.{agree_back, lies_in_back, overlap_back, same_region, valid_back}
 use Rattle.plan_audit.specs.Faults.{FirstAbsent, FirstHit, FirstOff, FirstStray, HasSpotOff, IsAbsent, IsHit, IsOff, IsStray, IsVerdict, ComesBefore, nth, part_of}
 use Rattle.plan_audit.specs.Firsts.{IsFirst, Less}
-use Rattle.plan_audit.specs.Places.{IsRoomy}
 use Rattle.plan_audit.specs.declared.verdict.Hit.{Hit}
 use Rattle.plan_audit.specs.declared.verdict.Verdict.{Verdict}
 use Rattle.plan_audit.specs.declared.verdict.Verdict.TheVariants as Verdicts
-use Rattle.plan_text.specs.PlanText.{IsPlace, IsPlanFile, has_places}
-use Rattle.plan_text.specs.declared.file.PlanFile.{PlanFile}
 use Rattle.seq_model.specs.Jobs.{no_part}
 use Rattle.seq_model.specs.Outlines.{Within}
 use Rattle.seq_model.specs.Plates.{region_of}
@@ -157,35 +154,3 @@ module _ (s t : Scene) (a : Agree s t) (e : ℕ) (plan : Plan) where
   same_verdict (Verdicts.Absent o) is = (strays None is.0, absents (Some o) is.1)
   same_verdict (Verdicts.OffPlate k) is = (strays None is.0, absents None is.1, offs is.0 (Some k) is.2)
   same_verdict (Verdicts.Collides h) is = (strays None is.0, absents None is.1, offs is.0 None is.2, hits is.0 (Some h) is.3)
-
--- ---- what an audit asks of a plan
-pub record IsReady (plan : Plan) : Type 0 where
-  pub one : pos 1 ≤ℤ plan.scale
-  pub scale : unsigned_abs plan.scale < 2 ^ 62
-  pub few : length plan.places ≤ 16
-  pub roomy : All IsRoomy plan.places
-
-roomy : (places : List Place) → All IsPlace places → All IsRoomy places
-roomy places all = All-from_in IsRoomy places (λ p i. of p (All-in IsPlace places p all i))
-  where
-    of : (p : Place) → IsPlace p → IsRoomy p
-    of p is = record { x = is.x; y = is.y }
-
-pub is_ready : (file : PlanFile) → IsPlanFile file → IsReady file.plan
-is_ready file f = by (has_places file.state) refl
-  where
-    by : (b : Bool) → has_places file.state ≡ b → IsReady file.plan
-    by true e =
-        let p = f.placed e in
-        record { one = p.scale_low; scale = below file.plan.scale p.scale_low p.scale_high; few = p.few; roomy = roomy file.plan.places p.places }
-      where
-        below : (z : ℤ) → pos 1 ≤ℤ z → z <ℤ pos (2 ^ 62) → unsigned_abs z < 2 ^ 62
-        below z h k = omega (arith, ints)
-    by false e =
-        let b = f.bare e in
-        record {
-          one = subst (λ z. pos 1 ≤ℤ z) (sym b.scale) (omega (arith, ints));
-          scale = subst (λ z. unsigned_abs z < 2 ^ 62) (sym b.scale) (omega arith);
-          few = subst (λ (ps : List Place). length ps ≤ 16) (sym b.places) (omega arith);
-          roomy = subst (All IsRoomy) (sym b.places) (All-nil IsRoomy);
-        }

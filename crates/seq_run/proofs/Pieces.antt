@@ -16,9 +16,6 @@ Grew-append x None (Some z) a b p q = absurd q
 Grew-append None (Some y) (Some z) a b p q = absurd p
 Grew-append (Some x) (Some y) (Some z) a b p q = q ∙ ap (λ l. l ++ b) p ∙ append_assoc x a b
 
-pub Wrote-append : (a b : List ℕ) (u v w : SinkView) → Wrote a u v → Wrote b v w → Wrote (a ++ b) u w
-Wrote-append a b u v w p q = record { all = Grew-append u.taken v.taken w.taken a b p.all q.all; calm = q.calm ∙ p.calm }
-
 pub BrokeIn-append : (a b : List ℕ) (u v w : SinkView) → Wrote a u v → BrokeIn b v w → BrokeIn (a ++ b) u w
 BrokeIn-append a b u v w p q =
     let n = q.part.0 in

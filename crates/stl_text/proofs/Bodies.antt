@@ -76,9 +76,6 @@ pub record SoFar (bytes : List ℕ) (first at : ℕ) (found : Found) : Type 0 wh
   pub near : All IsNearFacet found.facets
   pub comes : (r : Result Found Stl) → ReadsOnly (body bytes at found) r → ReadsOnly (body bytes first nothing) r
 
-pub so_far_nothing : (bytes : List ℕ) (first : ℕ) → first ≤ length bytes → SoFar bytes first first nothing
-so_far_nothing bytes first h = record { within = h; few = omega arith; near = All-nil IsNearFacet; comes = λ r reads. reads }
-
 -- `n` and `next` are what the code holds: the count, and the part that it was given
 module _ (bytes : List ℕ) (first at n : ℕ) (found : Found) (so_far : SoFar bytes first at found) (counted : n ≡ count found) where
   reads_at : (r : Result Part Stl) → ReadsOnly (part bytes at n) r → ReadsOnly (part bytes at (count found)) r

@@ -5,7 +5,7 @@
 --   only_memory        a made mesh is refused for want of memory alone; so is the made description (`printer_memory`)
 --   slices             it can be sliced
 --   made_printer       the printer of the made description
---   none_made, made_more    no objects of no files, and one file more
+--   made_more          one file more
 --   all_sound          the objects of a trial are sound
 use Rattle.std.proofs.Common.{◌≡◌, ℕ, zero, suc, ◌+◌, ◌<◌, ◌≤◌, pos, List, [], ◌∷◌, ◌++◌, length, get_or, take, All, refl, sym, ap, ◌∙◌, subst, arith, ◌⊎◌, inl, inr, Result, Ok}
 use Rattle.std.proofs.lemmas.List.{take_more}
@@ -91,9 +91,6 @@ zip_push R [] [] x y z r = (r, tt)
 zip_push R [] (b ∷ ys) x y z r = absurd z
 zip_push R (a ∷ xs) [] x y z r = absurd z
 zip_push R (a ∷ xs) (b ∷ ys) x y z r = (z.0, zip_push R xs ys x y z.1 r)
-
-pub none_made : (printer : Printer) → AreMadeObjects printer [] [] 0
-none_made printer = record { meshes = []; each = tt; objects_are = tt; counted = refl }
 
 pub made_more : (printer : Printer) (files : List MemFile) (k : ℕ) (d : MemFile) (objects : List Object) (o : Object) (n m : ℕ) → k < length files
     → AreMadeObjects printer (take k files) objects n → IsMadeObject printer (get_or files k d) o m → AreMadeObjects printer (take (k + 1) files) (objects ++ o ∷ []) (n + m)

@@ -3,10 +3,8 @@ use Rattle.std.proofs.Common.{◌≡◌, ℕ, suc, ◌+◌, ◌<◌, ◌^◌, Li
 use Rattle.std.specs.List.{range_with_len}
 use Rattle.row_pivots.specs.Laws.Grown.{grown, length-more}
 use Rattle.row_pivots.specs.Laws.OneTable.{one_held}
-use Rattle.row_pivots.specs.Laws.Slacks.{slack_table}
 use Rattle.row_pivots.specs.Tables.{Holds}
 use Rattle.row_dictionary.specs.Pushing.{with_row, line_of}
-use Rattle.row_dictionary.specs.Scans.{start}
 use Rattle.row_dictionary.specs.Seen.{Seen, Standing, IsOf, swapped}
 use Rattle.row_dictionary.specs.Shrinking.{Fits}
 use Rattle.seq_model.specs.declared.row.Row.{Row}
@@ -80,13 +78,6 @@ long_joined (x ∷ xs) ys = let r = long_joined xs ys in omega (arith, r)
 
 nowhere : (front back : List Step) (step : Step) → [] ≡ front ++ step ∷ back → ⊥
 nowhere front back step e = let l = ap length e ∙ long_joined front (step ∷ back) in absurd (omega (arith, l))
-
-pub kept_nothing : (vars : ℕ) → vars < 2 ^ 32 → Kept vars [] (start vars [])
-kept_nothing vars h = record {
-  gives = record { vars_are = refl; basic = refl; free = refl; is_of = slack_table vars [] (λ k d b. absurd (omega (arith, b))) };
-  held = λ front step back e. absurd (nowhere front back step e);
-  count = omega (arith, h);
-}
 
 head_is : (x y : Step) (xs ys : List Step) → x ∷ xs ≡ y ∷ ys → x ≡ y
 head_is x y xs ys e = ap (λ (l : List Step). get_or l 0 x) e

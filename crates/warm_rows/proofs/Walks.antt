@@ -1,9 +1,9 @@
 -- A walk that notes its pivots, turn by turn.
 use Rattle.std.proofs.Common.{◌≡◌, suc, ◌<◌, List, [], ◌∷◌, ◌++◌, length, Contains, refl, ap, sym, subst, ◌∙◌, arith, None}
-use Rattle.std.proofs.lemmas.List.Elements.{All-nil, All-push}
+use Rattle.std.proofs.lemmas.List.Elements.{All-push}
 use Rattle.integer_laws.specs.Laws.Members.{Contains-from_in}
 use Rattle.feasible_point.specs.Laws.Solving.{gone_on, stays, ended_here, walks_to}
-use Rattle.feasible_point.specs.Laws.Walking.{steps_of, reached_here}
+use Rattle.feasible_point.specs.Laws.Walking.{steps_of}
 use Rattle.feasible_point.specs.Laws.Zero.{no_turn}
 use Rattle.feasible_point.specs.Walked.{GoesOn, Ended}
 use Rattle.row_pivots.specs.Tables.{line_or}
@@ -25,17 +25,6 @@ use Rattle.warm_rows.proofs.Steps.{joined_none, rows_of-append, rows_of-pivot, g
 joined_twice : {A : Type 0} (xs ys zs : List A) → (xs ++ ys) ++ zs ≡ xs ++ (ys ++ zs)
 joined_twice [] ys zs = refl
 joined_twice (x ∷ xs) ys zs = ap (λ t. x ∷ t) (joined_twice xs ys zs)
-
-pub begins : (steps : List Step) (t : Seen) → Kept t.vars steps t → OnWalk steps t steps t
-begins steps t k = record {
-  vars = refl;
-  pivots = [];
-  are = All-nil IsPivot;
-  steps_are = sym (joined_none steps);
-  kept = k;
-  reached = reached_here t.vars (rows_of steps) (basis_of (rows_of steps) t);
-  stays = λ n. refl;
-}
 
 no_rows : (pivots : List Step) → ArePivots pivots → rows_of pivots ≡ []
 no_rows [] a = refl
@@ -87,15 +76,6 @@ pub goes_fewer : (steps more : List Step) (first t new : Seen) (turn : Turn) →
 goes_fewer steps more first t new turn w u g = (gone_on (rows_of steps) (basis_of (rows_of steps) first) t new (held_on steps more first t w) w.reached turn u g).fewer
 
 -- ---- a turn that doesn't
-noted_none : (more : List Step) (turn : Turn) → (GoesOn turn → ⊥) → noted more turn ≡ more
-noted_none more Turns.Point g = refl
-noted_none more (Turns.Contradiction out) g = refl
-noted_none more (Turns.Wide out into row) g = refl
-noted_none more (Turns.Next out into) g = absurd (g tt)
-
-pub rests : (steps more : List Step) (first t new : Seen) (turn : Turn) → OnWalk steps first more t → Turned (rows_of steps) t new turn → (GoesOn turn → ⊥) → OnWalk steps first (noted more turn) new
-rests steps more first t new turn w u g =
-    subst (λ (l : List Step). OnWalk steps first l new) (sym (noted_none more turn g)) (subst (OnWalk steps first more) (sym (stays (rows_of steps) t new turn u g)) w)
 
 pub ends : (steps more : List Step) (first t new : Seen) (turn : Turn) → OnWalk steps first more t → Turned (rows_of steps) t new turn → (GoesOn turn → ⊥) → AtEnd steps first new turn
 ends steps more first t new turn w u g = record { walks = walks_to (rows_of steps) (basis_of (rows_of steps) first) new (held_on steps more first new here) here.reached turn ended; ended = ended }

@@ -1,5 +1,5 @@
 -- Steps of the reading of a tree's lines.
-use Rattle.std.proofs.Common.{◌≡◌, ℕ, suc, ◌+◌, ◌-◌, ◌≤◌, ◌<◌, ◌^◌, List, [], ◌∷◌, ◌++◌, inl, inr, length, reverse, replicate, Ok, refl, sym, ap, subst, ◌∙◌, arith, All, true, false, ◌⊎◌, Err}
+use Rattle.std.proofs.Common.{◌≡◌, ℕ, ◌+◌, ◌-◌, ◌≤◌, ◌<◌, ◌^◌, List, [], ◌∷◌, ◌++◌, inl, inr, length, reverse, replicate, Ok, refl, sym, ap, subst, ◌∙◌, arith, All, true, false, ◌⊎◌, Err}
 use Rattle.std.proofs.lemmas.List.{reverse-append}
 use Rattle.std.proofs.lemmas.List.Elements.{All-head, All-tail}
 use Rattle.seq_model.specs.declared.tree.Node.{Node}
@@ -75,20 +75,6 @@ pub record IsOpening (o : Opening) : Type 0 where
 
 pub taken_last : (all left : List Opening) (o : Opening) → all ≡ left ++ o ∷ [] → o.left ≡ 1 → due (reverse all) ≡ o.depth ∷ due (reverse left)
 taken_last all left o e one = ap due (turned left all o e) ∙ ap (λ n. replicate n o.depth ++ due (reverse left)) one
-
-pub taken_more : (all left now : List Opening) (o : Opening) → all ≡ left ++ o ∷ [] → 1 < o.left → now ≡ left ++ record { left = o.left - 1; depth = o.depth } ∷ [] → due (reverse all) ≡ o.depth ∷ due (reverse now)
-taken_more all left now o e more put =
-    let many : o.left ≡ suc (o.left - 1) = omega arith in
-    ap due (turned left all o e) ∙ ap (λ n. replicate n o.depth ++ due (reverse left)) many ∙ ap (λ t. o.depth ∷ t) (sym (ap due (turned left now _ put)))
-
-pub opened : (all now : List Opening) (count depth : ℕ) → now ≡ all ++ record { left = count; depth = depth } ∷ [] → due (reverse now) ≡ replicate count depth ++ due (reverse all)
-opened all now count depth put = ap due (turned all now _ put)
-
-pub not_opened : (all now : List Opening) (count depth : ℕ) → now ≡ all → count ≡ 0 → due (reverse now) ≡ replicate count depth ++ due (reverse all)
-not_opened all now count depth same none = ap (λ l. due (reverse l)) same ∙ ap (λ n. replicate n depth ++ due (reverse all)) (sym none)
-
-pub starts : (line : Line) (bytes : List ℕ) (nodes : List Node) (all : List Opening) → nodes ≡ [] → due (reverse all) ≡ 0 ∷ [] → Reading line bytes nodes bytes all
-starts line bytes nodes all none one = record { lines = subst (λ t. LinesRead line bytes t bytes) (sym none) refl; fills = subst (λ t. Fills most_deep (0 ∷ []) t (due (reverse all))) (sym none) (sym one) }
 
 pub turn : (line : Line) (bytes : List ℕ) (nodes now : List Node) (node : Node) (rest after : List ℕ) (d e count : ℕ) (all left more : List Opening) → Reading line bytes nodes rest all → due (reverse all) ≡ d ∷ due (reverse left)
     → line rest ≡ Ok (node, after) → d ≤ most_deep → count ≡ arity node → e ≡ d + 1 → due (reverse more) ≡ replicate count e ++ due (reverse left) → now ≡ nodes ++ node ∷ [] → Reading line bytes now after more

@@ -3,7 +3,8 @@ use Rattle.std.proofs.Common.{◌≡◌, ℕ, ◌≤◌, ℤ, pos, negsuc, ◌�
 use Rattle.std.proofs.lemmas.Int.{ints}
 use Rattle.std.proofs.lemmas.List.Elements.{All-nil, All-cons, All-head, All-tail}
 use Rattle.std.specs.List.{list_any}
-use Rattle.seq_num.specs.Laws.Spelling.{guard_some, and_true}
+use Rattle.std.proofs.lemmas.Bool.{and_parts}
+use Rattle.seq_num.specs.Laws.Spelling.{guard_some}
 use Rattle.text_lines.specs.Laws.Reading.{step_some}
 use Rattle.cert_text.specs.Lines.{numbers_at, room_of, are_enough, is_below, is_far, form_at, bound_at}
 use Rattle.cert_text.specs.TreeText.{numbers_text, row_of, AreRising}
@@ -29,7 +30,7 @@ unfolding form_at
 form_takes form bytes rest ns e =
     let n = step_some (numbers_at (codes " ") (room_of form) bytes) _ (ns, rest) e in
     let g = guard_some (are_enough form n.0.0 && not (list_any is_below n.0.0)) n.0 (ns, rest) n.2 in
-    let b = and_true (are_enough form n.0.0) (not (list_any is_below n.0.0)) g.0 in
+    let b = and_parts (are_enough form n.0.0) (not (list_any is_below n.0.0)) g.0 in
     let t = numbers_takes (codes " ") (room_of form) bytes n.0.1 n.0.0 n.1 in
     let all : TakesForm form bytes n.0.1 n.0.0 = record { spelled = t.spelled; few = t.few; enough = b.0; none_below = not_true (list_any is_below n.0.0) b.1 } in
     subst (λ (t : List ℤ × List ℕ). TakesForm form bytes t.1 t.0) g.1 all

@@ -9,6 +9,7 @@ use Rattle.std.proofs.lemmas.Bool.Decides.{nat_tests}
 use Rattle.std.proofs.lemmas.Int.{ints}
 use Rattle.std.proofs.lemmas.List.Elements.{All-nil, All-cons, All-head, All-tail}
 use Rattle.std.specs.List.{list_any}
+use Rattle.std.proofs.lemmas.Bool.{and_parts}
 use Rattle.seq_model.specs.declared.tree.Node.{Node}
 use Rattle.seq_model.specs.declared.tree.Tree.{Tree}
 use Rattle.cert_text.specs.declared.block.Head.{Head}
@@ -31,7 +32,7 @@ use Rattle.cert_text.specs.declared.block.CertRead.TheVariants as answers
 use Rattle.seq_model.specs.declared.what.What.TheVariants as what
 use Rattle.cert_text.specs.Heads.{rising, is_due, wide_start_at, wide_at, is_wide_far, note_of, noted, note_at, with_note, headed, extended, begun, head_at, IsRefusedTree, before, refused}
 use Rattle.cert_text.specs.Laws.Counts.{IsCount, neither, count_is, count_small, counted, all_small, again, none_far}
-use Rattle.seq_num.specs.Laws.Spelling.{guard_some, and_true}
+use Rattle.seq_num.specs.Laws.Spelling.{guard_some}
 use Rattle.text_lines.specs.Laws.Reading.{step_some, literal_takes, literal_again, whole_takes, whole_again}
 
 pub record IsFittingWide (w : Wide) (more : List ℤ) : Type 0 where
@@ -45,17 +46,17 @@ pub record IsFittingWide (w : Wide) (more : List ℤ) : Type 0 where
 pub low_counts : (low : ℤ) (ns : List ℤ) → negsuc 0 ≤ℤ low → rising low ns ≡ true → list_any is_far ns ≡ false → All IsCount ns
 low_counts low [] h r f = All-nil IsCount
 low_counts low (n ∷ ns) h r f =
-    let b = and_true (int_lt low n) (rising n ns) r in
+    let b = and_parts (int_lt low n) (rising n ns) r in
     let far = neither (is_far n) (list_any is_far ns) f in
     let up = b.0 in
     let down = far.0 in
     let above : low <ℤ n = grind (arith, nat_tests, ints, up) in
     All-cons IsCount n ns (record { low = omega (arith, ints, h, above); high = grind (arith, nat_tests, ints, down) }) (low_counts n ns (omega (arith, ints, h, above)) b.1 far.1)
 
-both_three : (a b c : Bool) → (a && b && c) ≡ true → (a ≡ true) × (b ≡ true) × (c ≡ true)
-both_three true true c e = (refl, refl, e)
-both_three true false c e = absurd cc
-both_three false b c e = absurd cc
+chain_parts : (a b c : Bool) → (a && b && c) ≡ true → (a ≡ true) × (b ≡ true) × (c ≡ true)
+chain_parts true true c e = (refl, refl, e)
+chain_parts true false c e = absurd cc
+chain_parts false b c e = absurd cc
 
 none_three : (a b c : Bool) → (a || b || c) ≡ false → (a ≡ false) × (b ≡ false) × (c ≡ false)
 none_three false false c e = (refl, refl, e)
@@ -101,7 +102,7 @@ wide_takes bytes rest w more e =
 
 fits_of : (w : Wide) (more : List ℤ) → is_due w more ≡ true → is_wide_far w more ≡ false → IsFittingWide w more
 fits_of w more d f =
-    let due = both_three (int_lt (negsuc 0) w.node) (int_lt (negsuc 0) w.row) (rising (negsuc 0) (w.first ∷ more)) d in
+    let due = chain_parts (int_lt (negsuc 0) w.node) (int_lt (negsuc 0) w.row) (rising (negsuc 0) (w.first ∷ more)) d in
     let far = none_three (int_lt (pos 4_611_686_018_427_387_903) w.node) (is_far w.row) (list_any is_far (w.first ∷ more)) f in
     let all = low_counts (negsuc 0) (w.first ∷ more) (omega (arith, ints)) due.2 far.2 in
     let n = due.0 in
@@ -122,7 +123,7 @@ wide_fits bytes rest w more e f = fits_of w more (wide_takes bytes rest w more e
 rising_is : (low : ℤ) (ns : List ℤ) → rising low ns ≡ true → AreRising low ns
 rising_is low [] e = tt
 rising_is low (n ∷ ns) e =
-    let b = and_true (int_lt low n) (rising n ns) e in
+    let b = and_parts (int_lt low n) (rising n ns) e in
     let up = b.0 in
     (grind (arith, nat_tests, ints, up), rising_is n ns b.1)
 
@@ -148,7 +149,7 @@ note_of_takes : (bytes rest : List ℕ) (w : Wide) (more : List ℤ) → wide_at
 note_of_takes bytes rest w more e f =
     let t = wide_takes bytes rest w more e in
     let fits = fits_of w more t.due f in
-    let due = both_three (int_lt (negsuc 0) w.node) (int_lt (negsuc 0) w.row) (rising (negsuc 0) (w.first ∷ more)) t.due in
+    let due = chain_parts (int_lt (negsuc 0) w.node) (int_lt (negsuc 0) w.row) (rising (negsuc 0) (w.first ∷ more)) t.due in
     let all = All-cons IsCount w.first more fits.first fits.others in
     let basis : map pos (map unsigned_abs (w.first ∷ more)) ≡ w.first ∷ more = counted (w.first ∷ more) all in
     let node = count_is w.node fits.node_low in
@@ -191,9 +192,6 @@ many_numbers : (sep : List ℕ) → IsSeparator sep → (ns : List ℤ) → leng
 many_numbers sep is [] = omega arith
 many_numbers sep is (n ∷ ns) =
     omega (arith, is.some, many_numbers sep is ns, length-append (number_text sep n) (numbers_text sep ns), length-append sep (spelling n))
-
-abbrev pub wide_of : WideNote → ℕ → Wide
-wide_of note first = record { node = pos note.node; row = pos note.row; first = pos first }
 
 start_again : (w : Wide) (rest : List ℕ) → CanBeSpelt w.node → CanBeSpelt w.row → CanBeSpelt w.first → digit_count rest ≡ 0
     → wide_start_at (codes "wide " ++ (spelling w.node ++ (number_text (codes " ") w.row ++ (number_text (codes " ") w.first ++ rest)))) ≡ Some (w, rest)

@@ -11,7 +11,7 @@ use Rattle.std.proofs.lemmas.List.Elements.{All-nil, All-cons, All-head, All-tai
 use Rattle.std.proofs.lemmas.Slice.Eq.{bytes_eq-Decides}
 use Rattle.std.specs.List.{list_any}
 use Rattle.std.specs.Str.{bytes_eq}
-use Rattle.seq_num.specs.Laws.Spelling.{and_true}
+use Rattle.std.proofs.lemmas.Bool.{and_parts}
 use Rattle.text_lines.specs.Reading.{literal_at}
 use Rattle.text_lines.specs.Laws.Reading.{literal_takes, literal_again}
 use Rattle.seq_model.specs.declared.tree.Mult.{Mult}
@@ -235,16 +235,16 @@ cycle_written (k ∷ ks) few e all =
       spelt = subst (λ l. IsSpelt (Nodes.Cycle l)) (sym same) (omega arith, few, all);
     }
 
-six : (ks : List ℕ) → are_enough Side (map pos ks) ≡ true → length ks ≡ 6
-six ks e =
-    let b = and_true (eqb (length (map pos ks)) 6) (int_lt (pos 0) (number_or (map pos ks) 5)) e in
+side_length : (ks : List ℕ) → are_enough Side (map pos ks) ≡ true → length ks ≡ 6
+side_length ks e =
+    let b = and_parts (eqb (length (map pos ks)) 6) (int_lt (pos 0) (number_or (map pos ks) 5)) e in
     let h = b.0 in
     let n : length (map pos ks) ≡ 6 = grind (arith, nat_tests, h) in
     omega (arith, n, length-positions ks)
 
 written : (form : Form) (ks : List ℕ) → length ks ≤ room_of form → are_enough form (map pos ks) ≡ true → All IsSmall ks → Written form ks
 written Order ks few e all = order_written ks e all
-written Side ks few e all = side_written ks (six ks e) e all
+written Side ks few e all = side_written ks (side_length ks e) e all
 written Cycle ks few e all = cycle_written ks few e all
 
 pub record TakesLine (bytes after : List ℕ) (n : Node) : Type 0 where
@@ -345,16 +345,16 @@ pending_again rest =
     rw (other_letter 111 112 (codes "rder") (codes "ending\n" ++ rest) refl) (rw (other_letter 115 112 (codes "ide") (codes "ending\n" ++ rest) refl) (rw (other_letter 98 112 (codes "ound") (codes "ending\n" ++ rest) refl)
     (rw (other_letter 99 112 (codes "ycle") (codes "ending\n" ++ rest) refl) (rw (literal_again (codes "pending\n") rest) refl))))
 
-two : (a b : ℕ) → IsSmall a → IsSmall b → All IsSmall (a ∷ b ∷ [])
-two a b h k = All-cons IsSmall a (b ∷ []) h (All-cons IsSmall b [] k (All-nil IsSmall))
+small_pair : (a b : ℕ) → IsSmall a → IsSmall b → All IsSmall (a ∷ b ∷ [])
+small_pair a b h k = All-cons IsSmall a (b ∷ []) h (All-cons IsSmall b [] k (All-nil IsSmall))
 
 pub line_again : (n : Node) (rest : List ℕ) → IsSpelt n → line_at (node_text n ++ rest) ≡ Ok (n, rest)
 line_again (Nodes.Order i j) rest s =
     ap line_at (append_assoc (codes "order") (numbers_text (codes " ") (pos i ∷ pos j ∷ [])) rest)
-    ∙ (order_again (numbers_text (codes " ") (pos i ∷ pos j ∷ []) ++ rest) ∙ formed_again Order (i ∷ j ∷ []) rest (two i j s.0 s.1) (omega arith) refl)
+    ∙ (order_again (numbers_text (codes " ") (pos i ∷ pos j ∷ []) ++ rest) ∙ formed_again Order (i ∷ j ∷ []) rest (small_pair i j s.0 s.1) (omega arith) refl)
 line_again (Nodes.Side c k) rest s =
     let all = All-cons IsSmall c.i (c.zi ∷ c.part ∷ c.zj ∷ c.j ∷ k ∷ []) s.0.i (All-cons IsSmall c.zi (c.part ∷ c.zj ∷ c.j ∷ k ∷ []) s.0.zi
-    (All-cons IsSmall c.part (c.zj ∷ c.j ∷ k ∷ []) s.0.part (All-cons IsSmall c.zj (c.j ∷ k ∷ []) s.0.zj (two c.j k s.0.j s.2)))) in
+    (All-cons IsSmall c.part (c.zj ∷ c.j ∷ k ∷ []) s.0.part (All-cons IsSmall c.zj (c.j ∷ k ∷ []) s.0.zj (small_pair c.j k s.0.j s.2)))) in
     let more = s.1 in
     let some : int_lt (pos 0) (pos k) ≡ true = grind (arith, nat_tests, ints, more) in
     ap line_at (append_assoc (codes "side") (numbers_text (codes " ") (side_numbers c k)) rest)

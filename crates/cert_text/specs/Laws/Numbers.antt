@@ -135,13 +135,9 @@ behind found p = (found ++ p.0, p.1)
 room_left : (most n : ℕ) → n < most → most - n ≡ suc (most - n - 1)
 room_left most n h = omega arith
 
-pub loop_starts : (found : List ℤ) (o : Option (List ℤ × List ℕ)) → found ≡ [] → option_map (behind found) o ≡ o
-loop_starts found None e = refl
-loop_starts found (Some p) e = ap (λ (f : List ℤ). Some (f ++ p.0, p.1)) e
-
-both : (found : List ℤ) (p : ℤ) (o : Option (List ℤ × List ℕ)) → option_map (behind (found ++ p ∷ [])) o ≡ option_map (behind found) (o >>= λ ps. Some (p ∷ ps.0, ps.1))
-both found p None = refl
-both found p (Some ps) = ap (λ (l : List ℤ). Some (l, ps.1)) (append_assoc found (p ∷ []) ps.0)
+behind_more : (found : List ℤ) (p : ℤ) (o : Option (List ℤ × List ℕ)) → option_map (behind (found ++ p ∷ [])) o ≡ option_map (behind found) (o >>= λ ps. Some (p ∷ ps.0, ps.1))
+behind_more found p None = refl
+behind_more found p (Some ps) = ap (λ (l : List ℤ). Some (l, ps.1)) (append_assoc found (p ∷ []) ps.0)
 
 pub loop_more : (sep : List ℕ) (most : ℕ) (all : Option (List ℤ × List ℕ)) (found found' : List ℤ) (bytes rest : List ℕ) (p : ℤ) → length found < most → found' ≡ found ++ p ∷ [] → ends_line bytes ≡ false → number_at sep bytes ≡ Some (p, rest)
     → option_map (behind found) (numbers_at sep (most - length found) bytes) ≡ all → option_map (behind found') (numbers_at sep (most - length found') rest) ≡ all
@@ -150,7 +146,7 @@ loop_more sep most all found found' bytes rest p few is open_line read so_far =
     let step : numbers_at sep (most - length found) bytes ≡ (numbers_at sep (most - length found - 1) rest >>= λ ps. Some (p ∷ ps.0, ps.1)) =
     ap (λ n. numbers_at sep n bytes) (room_left most (length found) few) ∙ step_more sep (most - length found - 1) bytes open_line ∙ ap (λ o. o >>= λ q. numbers_at sep (most - length found - 1) q.1 >>= λ ps. Some (q.0 ∷ ps.0, ps.1)) read in
     ap (λ n. option_map (behind found') (numbers_at sep n rest)) left ∙ ap (λ f. option_map (behind f) (numbers_at sep (most - length found - 1) rest)) is
-    ∙ both found p (numbers_at sep (most - length found - 1) rest) ∙ ap (option_map (behind found)) (sym step) ∙ so_far
+    ∙ behind_more found p (numbers_at sep (most - length found - 1) rest) ∙ ap (option_map (behind found)) (sym step) ∙ so_far
 
 pub loop_none : (sep : List ℕ) (most : ℕ) (all : Option (List ℤ × List ℕ)) (found : List ℤ) (bytes : List ℕ) → length found < most → ends_line bytes ≡ false → number_at sep bytes ≡ None
     → option_map (behind found) (numbers_at sep (most - length found) bytes) ≡ all → None ≡ all
@@ -170,11 +166,6 @@ loop_ended sep most all found bytes o ended is so_far = by o is
     by : (q : Option (List ℕ)) → q ≡ literal_at (codes "\n") bytes → option_map (λ rest. (found, rest)) q ≡ all
     by None e = absurd (cc (ended, e))
     by (Some rest) e = sym (ap (option_map (behind found)) (step_end sep (most - length found) bytes rest (sym e)) ∙ ap (λ (l : List ℤ). Some (l, rest)) (append-nil found)) ∙ so_far
-
-pub smaller_rest : (sep : List ℕ) → IsSeparator sep → (bytes rest : List ℕ) (p : ℤ) → number_at sep bytes ≡ Some (p, rest) → length rest < length bytes
-smaller_rest sep is bytes rest p read =
-    let t = number_takes sep bytes rest p read in
-    omega (arith, is.some, ap length t.spelled, length-append (number_text sep p) rest, length-append sep (spelling p))
 
 pub with_found : {B : Type 0} (found : List ℤ) (now : B → List ℕ) (o : Option B) (y : Option (List ℕ)) → option_map now o ≡ y → option_map {U = List ℤ × List ℕ} (λ r. (found, now r)) o ≡ option_map (λ rest. (found, rest)) y
 with_found found now None y e = ap (option_map (λ rest. (found, rest))) e

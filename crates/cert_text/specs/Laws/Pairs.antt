@@ -192,13 +192,9 @@ behind found p = (found ++ p.0, p.1)
 room_left : (n : ℕ) → n < 33 → 33 - n ≡ suc (32 - n)
 room_left n h = omega arith
 
-pub loop_starts : (found : List Pair) (o : Option (List Pair × List ℕ)) → found ≡ [] → option_map (behind found) o ≡ o
-loop_starts found None e = refl
-loop_starts found (Some p) e = ap (λ (f : List Pair). Some (f ++ p.0, p.1)) e
-
-both : (found : List Pair) (p : Pair) (o : Option (List Pair × List ℕ)) → option_map (behind (found ++ p ∷ [])) o ≡ option_map (behind found) (o >>= λ ps. Some (p ∷ ps.0, ps.1))
-both found p None = refl
-both found p (Some ps) = ap (λ (l : List Pair). Some (l, ps.1)) (append_assoc found (p ∷ []) ps.0)
+behind_more : (found : List Pair) (p : Pair) (o : Option (List Pair × List ℕ)) → option_map (behind (found ++ p ∷ [])) o ≡ option_map (behind found) (o >>= λ ps. Some (p ∷ ps.0, ps.1))
+behind_more found p None = refl
+behind_more found p (Some ps) = ap (λ (l : List Pair). Some (l, ps.1)) (append_assoc found (p ∷ []) ps.0)
 
 pub loop_more : (all : Option (List Pair × List ℕ)) (found found' : List Pair) (bytes rest : List ℕ) (p : Pair) → length found < 33 → found' ≡ found ++ p ∷ [] → ends_line bytes ≡ false → pair_at bytes ≡ Some (p, rest)
     → option_map (behind found) (pairs_at (33 - length found) bytes) ≡ all → option_map (behind found') (pairs_at (33 - length found') rest) ≡ all
@@ -207,7 +203,7 @@ loop_more all found found' bytes rest p few is open_line read so_far =
     let step : pairs_at (33 - length found) bytes ≡ (pairs_at (32 - length found) rest >>= λ ps. Some (p ∷ ps.0, ps.1)) =
     ap (λ n. pairs_at n bytes) (room_left (length found) few) ∙ step_more (32 - length found) bytes open_line ∙ ap (λ o. o >>= λ q. pairs_at (32 - length found) q.1 >>= λ ps. Some (q.0 ∷ ps.0, ps.1)) read in
     ap (λ n. option_map (behind found') (pairs_at n rest)) left ∙ ap (λ f. option_map (behind f) (pairs_at (32 - length found) rest)) is
-    ∙ both found p (pairs_at (32 - length found) rest) ∙ ap (option_map (behind found)) (sym step) ∙ so_far
+    ∙ behind_more found p (pairs_at (32 - length found) rest) ∙ ap (option_map (behind found)) (sym step) ∙ so_far
 
 pub loop_none : (all : Option (List Pair × List ℕ)) (found : List Pair) (bytes : List ℕ) → length found < 33 → ends_line bytes ≡ false → pair_at bytes ≡ None
     → option_map (behind found) (pairs_at (33 - length found) bytes) ≡ all → None ≡ all

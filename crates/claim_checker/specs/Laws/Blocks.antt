@@ -1,12 +1,11 @@
 -- When the block that a claim asks for is there.
 --
 --   has_no_block_due     where no block is due at all
---   has_no_claim         where the state claims nothing that can be checked
 --   has_block_read       where a block was read
 use Rattle.std.proofs.Common.{◌≡◌, ℕ, zero, suc, ◌-◌, false, Option, Some, sym, subst, arith, nat_lt}
 use Rattle.std.proofs.lemmas.Bool.Decides.{nat_tests}
 use Rattle.cert_text.specs.declared.block.Head.{Head}
-use Rattle.claim_checker.specs.Claims.{CanBeChecked, HasBlock, IsReadTree, excluded_in}
+use Rattle.claim_checker.specs.Claims.{HasBlock, IsReadTree, excluded_in}
 use Rattle.plan_text.specs.PlanText.{is_block_due}
 use Rattle.plan_text.specs.declared.file.State.{State}
 use Rattle.plan_text.specs.declared.file.State.TheVariants as States
@@ -26,15 +25,6 @@ has_no_block_due States.OpenWide grid extent block undue = tt
 has_no_block_due States.NoPlan grid extent block undue = absurd (cc undue)
 has_no_block_due States.UndecidedBudget grid extent block undue = tt
 has_no_block_due States.UndecidedWide grid extent block undue = tt
-
-pub has_no_claim : (state : State) (grid extent : ℕ) (block : Option (Head × Tree)) → (CanBeChecked state → ⊥) → HasBlock (excluded_in state grid extent) block
-has_no_claim States.Found grid extent block unclaimed = tt
-has_no_claim States.Least grid extent block unclaimed = absurd (unclaimed tt)
-has_no_claim States.OpenBudget grid extent block unclaimed = tt
-has_no_claim States.OpenWide grid extent block unclaimed = tt
-has_no_claim States.NoPlan grid extent block unclaimed = absurd (unclaimed tt)
-has_no_claim States.UndecidedBudget grid extent block unclaimed = tt
-has_no_claim States.UndecidedWide grid extent block unclaimed = tt
 
 pub has_block_read : (e : ℕ) (b : Head × Tree) → IsReadTree b.1 → HasBlock e (Some b)
 has_block_read zero b read = tt

@@ -23,7 +23,7 @@ use Rattle.row_pivots.specs.Laws.NextTable.{seen_next}
 use Rattle.row_pivots.specs.Laws.Pivoting.{range_set}
 use Rattle.row_pivots.specs.Ends.{point}
 use Rattle.row_pivots.specs.Laws.Points.{point_meets, line_none, climbs_fresh}
-use Rattle.row_pivots.specs.Laws.Sorted.{held, line_is, rising_members, same_free, free_member, range_climbs}
+use Rattle.row_pivots.specs.Laws.Sorted.{table_is_form, line_is, rising_members, same_free, free_member, range_climbs}
 use Rattle.row_pivots.specs.Tables.{Holds, Held, rising, sorted_line, sorted_lines, line_or, entry_of}
 use Rattle.row_pivots.specs.Laws.Turned.{set_members}
 use Rattle.row_dictionary.specs.Laws.Found.{LeavesAt, EntersAt}
@@ -142,7 +142,7 @@ pivots_to vars rows d basic free lines h out into at en = record {
 }
   where
     F : Held vars rows d basic free lines
-    F = held vars rows d basic free lines h
+    F = table_is_form vars rows d basic free lines h
 
     l : (l : Leaves (rising (vars + length rows) basic) F.form.lines out) × (l.line ≡ sorted_line (vars + length rows) basic free (line_or out basic lines))
     l = form_leaves vars rows d basic free lines h F.form F.lines_are out at
@@ -166,10 +166,10 @@ next_is vars rows d basic free lines h out into at en e gone others k =
     (swaps_in vars rows d basic free lines h out into at.member en.member)
   where
     F : Held vars rows d basic free lines
-    F = held vars rows d basic free lines h
+    F = table_is_form vars rows d basic free lines h
 
     G : Held vars rows e (swapped basic out into) gone others
-    G = held vars rows e (swapped basic out into) gone others k
+    G = table_is_form vars rows e (swapped basic out into) gone others k
 
     l : (l : Leaves (rising (vars + length rows) basic) F.form.lines out) × (l.line ≡ sorted_line (vars + length rows) basic free (line_or out basic lines))
     l = form_leaves vars rows d basic free lines h F.form F.lines_are out at
@@ -183,7 +183,7 @@ pub fewer : (vars : ℕ) (rows : List Row) (d : ℤ) (basic free : List ℕ) (li
     < steps_left (vars + length rows) (2 ^ (vars + length rows)) (table (vars + length rows) d basic free lines)
 fewer vars rows d basic free lines h out into at en e gone others k =
     falls vars rows h.rows_are (table (vars + length rows) d basic free lines) (table (vars + length rows) e (swapped basic out into) gone others)
-    (let F = held vars rows d basic free lines h in record { form = F.form; d_is = F.d_is; lines_are = F.lines_are })
+    (let F = table_is_form vars rows d basic free lines h in record { form = F.form; d_is = F.d_is; lines_are = F.lines_are })
     (next_is vars rows d basic free lines h out into at en e gone others k)
 
 -- ---- the walk so far
@@ -237,12 +237,12 @@ never_wide vars rows start b r stops n row w = none-some n (same_result vars row
 
 pub stops_point : (vars : ℕ) (rows : List Row) (d : ℤ) (basic free : List ℕ) (lines : List (List ℤ)) → Holds vars rows d basic free lines → ((y : ℕ) → In y basic → pos 0 ≤ℤ constant (line_or y basic lines))
     → Stops vars rows (rising (vars + length rows) basic)
-stops_point vars rows d basic free lines h none = let F = held vars rows d basic free lines h in record { form = F.form; stops = inl (form_nothing vars rows d basic free lines h F.form F.lines_are none) }
+stops_point vars rows d basic free lines h none = let F = table_is_form vars rows d basic free lines h in record { form = F.form; stops = inl (form_nothing vars rows d basic free lines h F.form F.lines_are none) }
 
 pub stops_none : (vars : ℕ) (rows : List Row) (d : ℤ) (basic free : List ℕ) (lines : List (List ℤ)) → Holds vars rows d basic free lines → (out : ℕ) → LeavesAt basic lines out → NoEntry free (line_or out basic lines)
     → Stops vars rows (rising (vars + length rows) basic)
 stops_none vars rows d basic free lines h out at none =
-    let F = held vars rows d basic free lines h in
+    let F = table_is_form vars rows d basic free lines h in
     let l = form_leaves vars rows d basic free lines h F.form F.lines_are out at in
     record {
       form = F.form;
@@ -274,7 +274,7 @@ pub meets : (vars : ℕ) (rows : List Row) (d : ℤ) (basic free : List ℕ) (li
 meets vars rows d basic free lines h none = subst (λ c. MeetsRows rows c (nums vars basic lines)) F.d_is (subst (MeetsRows rows F.form.d) same (point_meets vars rows (rising (vars + length rows) basic) F.form (form_nothing vars rows d basic free lines h F.form F.lines_are none)))
   where
     F : Held vars rows d basic free lines
-    F = held vars rows d basic free lines h
+    F = table_is_form vars rows d basic free lines h
 
     each : (z : ℕ) → constant (line_or z (rising (vars + length rows) basic) (sorted_lines (vars + length rows) basic free lines)) ≡ constant (line_or z basic lines)
     each z = by (true_or_false (is_in basic z))

@@ -4,13 +4,13 @@
 --   outline_of         and that of its corners
 --   parts_themselves   parts are the same as themselves, where a printer keeps them as they are listed
 --   zones_of           what the contract of an object says of its zones
---   held, free         the zones that hold a band have the outline of its spots, and where none does it has no spots
+--   outline_where_held, free   the zones that hold a band have the outline of its spots, and where none does it has no spots
 --   agree_with_job     the scene of the files agrees with that of the job
 --   same_plans_of_job  so both have the same valid plans
 --   same_least_of_job  and the same least extents
 use Rattle.std.proofs.Common.{◌≡◌, ◌<◌, ℕ, zero, suc, Bool, true, false, cond, ◌&&◌, List, [], ◌∷◌, length, All, Contains, Some, refl, sym, subst, ap, ◌∙◌, arith, inl, inr, ◌≢◌}
 use Rattle.std.specs.Prelude.{◌↔◌, slice_index_or, find, nat_le}
-use Rattle.std.proofs.lemmas.Bool.{true≢false, leb-true, le-leb}
+use Rattle.std.proofs.lemmas.Bool.{true≢false, leb-true, le-leb, and_parts}
 use Rattle.std.specs.List.{AllZip}
 use Rattle.integer_laws.specs.Members.{In}
 use Rattle.integer_laws.specs.Laws.Members.{All-in, All-from_in, In-from_contains}
@@ -56,8 +56,8 @@ zones_of name facets printer o is = record { bands = is.bands; zones = is.zones 
 filled : (s : Spot) (S : List Spot) → (s ∷ S) ≢ []
 filled s S e = let n = ap length e in absurd (omega arith)
 
-pub held : (S : ℕ → List Spot) (bands : ℕ) (zones : List Zone) → AreZonesOf S bands zones → (b : ℕ) → b < bands → (z : Zone) → In z zones → HoldsBand b z → SameOutline (S b) z.corners
-held S bands zones are b h z i holds = by (S b) refl
+pub outline_where_held : (S : ℕ → List Spot) (bands : ℕ) (zones : List Zone) → AreZonesOf S bands zones → (b : ℕ) → b < bands → (z : Zone) → In z zones → HoldsBand b z → SameOutline (S b) z.corners
+outline_where_held S bands zones are b h z i holds = by (S b) refl
   where
     by : (T : List Spot) → S b ≡ T → SameOutline (S b) z.corners
     by [] e = absurd (All-in (λ y. HoldsBand b y → ⊥) zones z (are.without_spots b h e) i holds)
@@ -75,13 +75,9 @@ free S bands zones are b h none = by (S b) refl
         let one = are.with_spots b h (λ f. filled s T (subst (λ U. U ≡ []) e f)) in
         absurd (none one.zone (In-from_contains zones one.zone one.member) one.holds)
 
-both : (x y : Bool) → (x && y) ≡ true → (x ≡ true) × (y ≡ true)
-both true y e = (refl, e)
-both false y e = absurd (true≢false (sym e))
-
 holds_of : (b : ℕ) (z : Zone) → holds_band b z ≡ true → HoldsBand b z
 holds_of b z e =
-    let t = both (nat_le z.first b) (nat_le b z.last) e in
+    let t = and_parts (nat_le z.first b) (nat_le b z.last) e in
     record { from = leb-true z.first b t.0; to = leb-true b z.last t.1 }
 
 held_by : (b : ℕ) (z : Zone) → HoldsBand b z → holds_band b z ≡ true
@@ -124,7 +120,7 @@ agree_with_job listed meshes job made = record {
       let has = of o h in
       let S = spots_in job.printer (facets_of meshes o) in
       let below = subst (λ n. b < n) (sym has.bands) k in
-      looked_up b (object_at job o).zones (S b) (held S (object_at job o).bands (object_at job o).zones has.zones b below) (free S (object_at job o).bands (object_at job o).zones has.zones b below);
+      looked_up b (object_at job o).zones (S b) (outline_where_held S (object_at job o).bands (object_at job o).zones has.zones b below) (free S (object_at job o).bands (object_at job o).zones has.zones b below);
   parts = made.parts;
   width = refl;
   depth = refl;

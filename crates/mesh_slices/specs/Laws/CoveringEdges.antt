@@ -29,9 +29,6 @@ Edge C low high p q =
     (u w : ℤ) → pos 0 ≤ℤ u → pos 0 ≤ℤ w → (low *ℤ (u +ℤ w)) ≤ℤ (u *ℤ p.z +ℤ w *ℤ q.z) → (u *ℤ p.z +ℤ w *ℤ q.z) ≤ℤ (high *ℤ (u +ℤ w))
     → InCone C (u *ℤ p.x +ℤ w *ℤ q.x) (u *ℤ p.y +ℤ w *ℤ q.y) (u +ℤ w)
 
-nonneg : {n : ℤ} → pos 0 <ℤ n → pos 0 ≤ℤ n
-nonneg h = omega (arith, ints)
-
 less : {a b : ℤ} → a <ℤ b → pos 0 <ℤ (b -ℤ a)
 less h = omega (arith, ints)
 

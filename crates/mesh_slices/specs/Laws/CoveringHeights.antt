@@ -19,12 +19,12 @@ use Rattle.seq_model.specs.declared.mesh.Facet.{Facet}
 use Rattle.seq_model.specs.declared.mesh.Point3.{Point3}
 use Rattle.seq_model.specs.Bands.{vertices, heights, least_z, height_of, band_count}
 use Rattle.integer_laws.specs.Extremes.{least, greatest}
-use Rattle.mesh_slices.specs.Cover.{SpacePoint, three, LiesOn, HasBand}
+use Rattle.mesh_slices.specs.Cover.{SpacePoint, vertices_of, LiesOn, HasBand}
 use Rattle.mesh_slices.specs.Laws.CoveringSpots.{in_flat}
 
 -- ---- the heights of a mesh
-pub In-heights : (facets : List Facet) (f : Facet) (p : Point3) → In f facets → In p (three f) → In p.z (heights facets)
-In-heights facets f p i j = In-map (λ (r : Point3). r.z) (vertices facets) p (in_flat three f p facets i j)
+pub In-heights : (facets : List Facet) (f : Facet) (p : Point3) → In f facets → In p (vertices_of f) → In p.z (heights facets)
+In-heights facets f p i j = In-map (λ (r : Point3). r.z) (vertices facets) p (in_flat vertices_of f p facets i j)
 
 least_below : (ns : List ℤ) (n : ℤ) → In n ns → least ns ≤ℤ n
 least_below [] n i = absurd i
@@ -41,8 +41,8 @@ positive h = omega (arith, ints)
 nonneg : {n : ℤ} → pos 1 ≤ℤ n → pos 0 ≤ℤ n
 nonneg h = omega (arith, ints)
 
-mean_from : (low : ℤ) (f : Facet) (q : SpacePoint) → ((p : Point3) → In p (three f) → low ≤ℤ p.z) → LiesOn f q → (low *ℤ q.d) ≤ℤ q.z
-mean_from low f q each on = by q.d q.z (weigh (λ p. p.z) (three f) on.w) (total (three f) on.w) (positive on.some) (nonneg on.positive) on.z (turned _ _ _ (weigh-linear (negsuc 0) (pos 0) (λ (p : Point3). p.z) (λ (p : Point3). p.z) (three f) on.w) (weigh_at_most (λ (p : Point3). negsuc 0 *ℤ p.z +ℤ pos 0 *ℤ p.z) (negsuc 0 *ℤ low) (three f) on.w on.weights (λ p i. below p.z (each p i))))
+mean_from : (low : ℤ) (f : Facet) (q : SpacePoint) → ((p : Point3) → In p (vertices_of f) → low ≤ℤ p.z) → LiesOn f q → (low *ℤ q.d) ≤ℤ q.z
+mean_from low f q each on = by q.d q.z (weigh (λ p. p.z) (vertices_of f) on.w) (total (vertices_of f) on.w) (positive on.some) (nonneg on.positive) on.z (turned _ _ _ (weigh-linear (negsuc 0) (pos 0) (λ (p : Point3). p.z) (λ (p : Point3). p.z) (vertices_of f) on.w) (weigh_at_most (λ (p : Point3). negsuc 0 *ℤ p.z +ℤ pos 0 *ℤ p.z) (negsuc 0 *ℤ low) (vertices_of f) on.w on.weights (λ p i. below p.z (each p i))))
   where
     below : (z : ℤ) → low ≤ℤ z → (negsuc 0 *ℤ z +ℤ pos 0 *ℤ z) ≤ℤ (negsuc 0 *ℤ low)
     below z h = le_from h (simp expand (omega (arith, ints)))
@@ -56,8 +56,8 @@ mean_from low f q each on = by q.d q.z (weigh (λ p. p.z) (three f) on.w) (total
     by : (d z h t : ℤ) → pos 0 <ℤ t → pos 0 ≤ℤ d → d *ℤ h ≡ z *ℤ t → (low *ℤ t) ≤ℤ h → (low *ℤ d) ≤ℤ z
     by d z h t p k e above = cancel_le t p (le_from (add_le (mul_le d k above) (le_of_same e)) (simp expand (omega (arith, ints))))
 
-mean_to : (high : ℤ) (f : Facet) (q : SpacePoint) → ((p : Point3) → In p (three f) → p.z ≤ℤ high) → LiesOn f q → q.z ≤ℤ (high *ℤ q.d)
-mean_to high f q each on = by q.d q.z (weigh (λ p. p.z) (three f) on.w) (total (three f) on.w) (positive on.some) (nonneg on.positive) on.z (weigh_at_most (λ (p : Point3). p.z) high (three f) on.w on.weights each)
+mean_to : (high : ℤ) (f : Facet) (q : SpacePoint) → ((p : Point3) → In p (vertices_of f) → p.z ≤ℤ high) → LiesOn f q → q.z ≤ℤ (high *ℤ q.d)
+mean_to high f q each on = by q.d q.z (weigh (λ p. p.z) (vertices_of f) on.w) (total (vertices_of f) on.w) (positive on.some) (nonneg on.positive) on.z (weigh_at_most (λ (p : Point3). p.z) high (vertices_of f) on.w on.weights each)
   where
     by : (d z h t : ℤ) → pos 0 <ℤ t → pos 0 ≤ℤ d → d *ℤ h ≡ z *ℤ t → h ≤ℤ (high *ℤ t) → z ≤ℤ (high *ℤ d)
     by d z h t p k e below = cancel_le t p (le_from (add_le (mul_le d k below) (le_of_same (sym e))) (simp expand (omega (arith, ints))))

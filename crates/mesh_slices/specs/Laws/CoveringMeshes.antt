@@ -10,7 +10,7 @@
 use Rattle.std.proofs.Common.{◌≡◌, ◌<◌, ℕ, Bool, true, false, T, ◌&&◌, if◌then◌else◌, List, [], ◌∷◌, ◌++◌, All, Contains, refl, sym, subst, arith, ℤ, pos, ◌+ℤ◌, ◌-ℤ◌, ◌*ℤ◌, ◌≤ℤ◌, ◌<ℤ◌, inl, inr}
 use Rattle.std.specs.Int.Signed.{le_z, lt_z, lt_z_yes}
 use Rattle.std.proofs.lemmas.Int.{ints}
-use Rattle.std.proofs.lemmas.Bool.{true≢false}
+use Rattle.std.proofs.lemmas.Bool.{true≢false, and_parts}
 use Rattle.integer_laws.specs.Laws.Ring.{expand}
 use Rattle.integer_laws.specs.Laws.Order.{le_from, same_from, le_of_same, add_le, mul_le, mul_positive, cancel_le}
 use Rattle.integer_laws.specs.Weights.{AreWeights, weigh, total}
@@ -25,7 +25,7 @@ use Rattle.seq_model.specs.Bands.{vertex_in, crossing_up, crossing, crossings, f
 use Rattle.seq_model.specs.Outlines.{spots, Within}
 use Rattle.seq_model.specs.Points.{Point, at_spot}
 use Rattle.mesh_slices.specs.Agreement.{HasZonesOf}
-use Rattle.mesh_slices.specs.Cover.{SpacePoint, three, LiesOn, LiesInBand, in_grains, Covers, LiesInZone, ZonesCover}
+use Rattle.mesh_slices.specs.Cover.{SpacePoint, vertices_of, LiesOn, LiesInBand, in_grains, Covers, LiesInZone, ZonesCover}
 use Rattle.mesh_slices.specs.Laws.Covering.{InCone, cone_part, cone_member, within_cone, within_within}
 use Rattle.mesh_slices.specs.Laws.CoveringSpots.{in_flat, in_spots}
 use Rattle.mesh_slices.specs.Laws.CoveringEdges.{Edge, edge, edge_back}
@@ -39,10 +39,6 @@ passes false h = absurd h
 
 passed : (b : Bool) → b ≡ true → T b
 passed b e = subst T (sym e) tt
-
-both : (x y : Bool) → (x && y) ≡ true → (x ≡ true) × (y ≡ true)
-both true y e = (refl, e)
-both false y e = absurd (true≢false (sym e))
 
 abbrev vertex_at : Point3 → Point
 vertex_at p = record { x = p.x; y = p.y; d = pos 1 }
@@ -88,7 +84,7 @@ vertex_has low high p r i = subst (λ t. pos 0 <ℤ t.d) (sym (one_of (le_z low 
 crossing_up_has : (h : ℤ) (p q : Point3) (r : Point) → In r (crossing_up h p q) → pos 0 <ℤ r.d
 crossing_up_has h p q r i =
     let one = one_of (lt_z p.z h && lt_z h q.z) (crossing_at h p q) r i in
-    let tests = both (lt_z p.z h) (lt_z h q.z) one.1 in
+    let tests = and_parts (lt_z p.z h) (lt_z h q.z) one.1 in
     let from : p.z <ℤ h = lt_z_yes (passed (lt_z p.z h) tests.0) in
     let to : h <ℤ q.z = lt_z_yes (passed (lt_z h q.z) tests.1) in
     subst (λ t. pos 0 <ℤ t.d) (sym one.0) (rises from to)
@@ -194,8 +190,8 @@ point_in_slab low high f q slab on from to = by on.w on.weights on.some on.x on.
     to_high : (d z l n h : ℤ) → pos 0 <ℤ d → pos 0 ≤ℤ n → d *ℤ h ≡ z *ℤ n → z ≤ℤ (l *ℤ d) → h ≤ℤ (l *ℤ n)
     to_high d z l n h p k e above = cancel_le d p (le_from (add_le (mul_le n k above) (le_of_same e)) (simp expand (omega (arith, ints))))
 
-    by : (w : List ℤ) → AreWeights (pos 0) (three f) w → pos 1 ≤ℤ total (three f) w → q.d *ℤ weigh (λ p. p.x) (three f) w ≡ q.x *ℤ total (three f) w → q.d *ℤ weigh (λ p. p.y) (three f) w ≡ q.y *ℤ total (three f) w
-        → q.d *ℤ weigh (λ p. p.z) (three f) w ≡ q.z *ℤ total (three f) w → InCone (facet_corners low high f) q.x q.y q.d
+    by : (w : List ℤ) → AreWeights (pos 0) (vertices_of f) w → pos 1 ≤ℤ total (vertices_of f) w → q.d *ℤ weigh (λ p. p.x) (vertices_of f) w ≡ q.x *ℤ total (vertices_of f) w → q.d *ℤ weigh (λ p. p.y) (vertices_of f) w ≡ q.y *ℤ total (vertices_of f) w
+        → q.d *ℤ weigh (λ p. p.z) (vertices_of f) w ≡ q.z *ℤ total (vertices_of f) w → InCone (facet_corners low high f) q.x q.y q.d
     by [] a s ex ey ez = absurd a
     by (u ∷ []) a s ex ey ez = absurd a.1
     by (u ∷ v ∷ []) a s ex ey ez = absurd a.1.1

@@ -5,7 +5,7 @@
 --   contact_collides            and then its objects do
 --   collides_by_contact         which they do only so
 use Rattle.std.proofs.Common.{◌≡◌, ◌≢◌, ℕ, zero, suc, ◌+◌, ◌-◌, ◌<◌, ◌≤◌, max, min, List, [], ◌∷◌, length, get_or, refl, ap, sym, subst, ◌∙◌, arith, Bool, true, false, ◌&&◌, Option, Some, None, AllPairs, inl, inr, ◌⊎◌, ◌↔◌}
-use Rattle.std.proofs.lemmas.Bool.{cases_lt}
+use Rattle.std.proofs.lemmas.Bool.{cases_lt, and_parts}
 use Rattle.std.proofs.lemmas.Bool.Decides.{nat_tests}
 use Rattle.std.proofs.lemmas.Int.{ints}
 use Rattle.std.proofs.lemmas.List.Elements.{All-get_or}
@@ -26,11 +26,6 @@ use Rattle.seq_model.specs.declared.printer.Part.{Part}
 use Rattle.seq_model.specs.declared.tree.Contact.{Contact}
 use Rattle.model_laws.specs.Collisions.{ByBands, ByContact}
 
-both : (a b : Bool) → (a && b) ≡ true → (a ≡ true) × (b ≡ true)
-both true true e = (refl, refl)
-both true false e = absurd (subst T (sym e) tt)
-both false b e = absurd (subst T (sym e) tt)
-
 le_is : (a b : ℕ) → nat_le a b ≡ true → a ≤ b
 le_is a b e = grind (arith, nat_tests)
 
@@ -44,8 +39,8 @@ no_le a b h = grind (arith, nat_tests)
 holds : (b : ℕ) (z : Zone) → z.first ≤ b → b ≤ z.last → holds_band b z ≡ true
 holds b z l h = rw (is_le z.first b l, is_le b z.last h) refl
 
-held : (b : ℕ) (z : Zone) → holds_band b z ≡ true → (z.first ≤ b) × (b ≤ z.last)
-held b z e = let r = both (nat_le z.first b) (nat_le b z.last) e in (le_is z.first b r.0, le_is b z.last r.1)
+holds_band_is : (b : ℕ) (z : Zone) → holds_band b z ≡ true → (z.first ≤ b) × (b ≤ z.last)
+holds_band_is b z e = let r = and_parts (nat_le z.first b) (nat_le b z.last) e in (le_is z.first b r.0, le_is b z.last r.1)
 
 pub find_zone : (b : ℕ) (zones : List Zone) (k : ℕ) (d : Zone) → AllPairs (λ (y z : Zone). y.last < z.first) zones → k < length zones → (get_or zones k d).first ≤ b → b ≤ (get_or zones k d).last
     → find (holds_band b) zones ≡ Some (get_or zones k d)
@@ -69,14 +64,14 @@ pub record Found (b : ℕ) (zones : List Zone) (z : Zone) : Type 0 where
   pub low : z.first ≤ b
   pub high : b ≤ z.last
 
-pub found : (b : ℕ) (zones : List Zone) (z : Zone) → find (holds_band b) zones ≡ Some z → Found b zones z
-found b [] z e = absurd (none-some z e)
-found b (y ∷ zones) z e = by (holds_band b y) refl e (found b zones z)
+pub find_some : (b : ℕ) (zones : List Zone) (z : Zone) → find (holds_band b) zones ≡ Some z → Found b zones z
+find_some b [] z e = absurd (none-some z e)
+find_some b (y ∷ zones) z e = by (holds_band b y) refl e (find_some b zones z)
   where
     by : (t : Bool) → holds_band b y ≡ t → cond t (Some y) (find (holds_band b) zones) ≡ Some z → (find (holds_band b) zones ≡ Some z → Found b zones z) → Found b (y ∷ zones) z
     by true h s later =
         let same = same_Some y z s in
-        let r = held b y h in
+        let r = holds_band_is b y h in
         record { place = 0; in_list = omega arith; is = λ d. same; low = subst (λ (x : Zone). x.first ≤ b) same r.0; high = subst (λ (x : Zone). b ≤ x.last) same r.1 }
     by false h s later = let f = later s in record { place = suc f.place; in_list = omega (arith, f.in_list); is = f.is; low = f.low; high = f.high }
 
@@ -94,10 +89,10 @@ two_bands : (earlier later : Zone) (part : Part) → earlier.first ≤ earlier.l
 two_bands earlier later part rises rises' sound meet = by part.hi refl
   where
     low : later.first + part.lo ≤ earlier.last
-    low = le_is (later.first + part.lo) earlier.last (both (nat_le (later.first + part.lo) earlier.last) (reaches_to part.hi later.last earlier.first) meet).0
+    low = le_is (later.first + part.lo) earlier.last (and_parts (nat_le (later.first + part.lo) earlier.last) (reaches_to part.hi later.last earlier.first) meet).0
 
     high : (n : ℕ) → part.hi ≡ Some n → earlier.first ≤ later.last + n
-    high n e = le_is earlier.first (later.last + n) (subst (λ h. reaches_to h later.last earlier.first ≡ true) e (both (nat_le (later.first + part.lo) earlier.last) (reaches_to part.hi later.last earlier.first) meet).1)
+    high n e = le_is earlier.first (later.last + n) (subst (λ h. reaches_to h later.last earlier.first ≡ true) e (and_parts (nat_le (later.first + part.lo) earlier.last) (reaches_to part.hi later.last earlier.first) meet).1)
 
     by : (hi : Option ℕ) → part.hi ≡ hi → TwoBands earlier later part
     by None e =
@@ -231,7 +226,7 @@ zoned job i b q m = by (find (holds_band b) (object_at job i).zones) refl m
     by : (o : Option Zone) → find (holds_band b) (object_at job i).zones ≡ o → Inner (corners_or_none o) q → Zoned job i b
     by None e n = (let some = n.some in absurd (omega (arith, ints, some)))
     by (Some z) e n =
-        let f = found b (object_at job i).zones z e in
+        let f = find_some b (object_at job i).zones z e in
         record { z = f.place; known = f.in_list; low = subst (λ (y : Zone). y.first ≤ b) (sym (f.is no_zone)) f.low; high = subst (λ (y : Zone). b ≤ y.last) (sym (f.is no_zone)) f.high }
 
 pub collides_by_contact : (job : Job) (i j : ℕ) (p r : Point) → i ≢ j → Collides (scene_of_job job) i p j r → ByContact job i j p r

@@ -219,8 +219,8 @@ grow hx hy S first c (p ∷ ps) g a =
     subst (λ T. Grown hx hy T first (grown (p ∷ fallen p c) ps)) (append_assoc S (p ∷ []) ps)
     (grow hx hy (S ++ p ∷ []) first (p ∷ fallen p c) ps (step hx hy S first p c g a.0) a.1)
 
-pub one : (hx hy : ℤ) (s : Spot) → Grown hx hy (s ∷ []) s (s ∷ [])
-one hx hy s = record { top = s; rest = []; is = refl; rises = tt; bends = tt; covers = λ p i. alone p i; from_first = refl; members = λ p i. i }
+pub grown_one : (hx hy : ℤ) (s : Spot) → Grown hx hy (s ∷ []) s (s ∷ [])
+grown_one hx hy s = record { top = s; rest = []; is = refl; rises = tt; bends = tt; covers = λ p i. alone p i; from_first = refl; members = λ p i. i }
   where
     alone : (p : Spot) → In p (s ∷ []) → Covers hx hy p s []
     alone p (inl e) = subst (λ q. Covers hx hy q s []) (sym e) (record { left = tt; below = omega (arith, ints); lowest = inl refl })
@@ -228,5 +228,5 @@ one hx hy s = record { top = s; rest = []; is = refl; rises = tt; bends = tt; co
 
 -- the chain of ascending points
 pub grown_all : (hx hy : ℤ) (s : Spot) (ps : List Spot) → Ascends hx hy s ps → Grown hx hy (s ∷ ps) s (grown [] (s ∷ ps))
-unfolding one
-grown_all hx hy s ps a = grow hx hy (s ∷ []) s (s ∷ []) ps (one hx hy s) a
+unfolding grown_one
+grown_all hx hy s ps a = grow hx hy (s ∷ []) s (s ∷ []) ps (grown_one hx hy s) a

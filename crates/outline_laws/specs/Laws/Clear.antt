@@ -9,6 +9,7 @@ use Rattle.std.specs.List.{list_all}
 use Rattle.std.proofs.lemmas.Int.{ints, by_lt_z, unsigned_abs-mul}
 use Rattle.std.proofs.lemmas.Bool.Decides.{nat_tests}
 use Rattle.std.proofs.Math.Nat.{eq-one_of_dvd-one}
+use Rattle.std.proofs.lemmas.Bool.{and_parts}
 use Rattle.integer_laws.specs.Laws.Ring.{expand}
 use Rattle.integer_laws.specs.Laws.Order.{same_from, add_same, mul_same, mul_le, cancel_le, le_from}
 use Rattle.integer_laws.specs.Divisors.{Reduces, IsPrimitive, AreCoprime}
@@ -101,14 +102,10 @@ yes_clear S q d n = by (is_zero d) refl
         ap (λ z. z || int_lt (d.x *ℤ q.x +ℤ d.y *ℤ q.y) (greatest_along d S *ℤ q.d)) p
         ∙ true_lt _ _ (by_lt_z (d.x *ℤ q.x +ℤ d.y *ℤ q.y) (greatest_along d S *ℤ q.d) (λ h. h) (λ h. absurd (n (direction_of d p) h)))
 
-both_true : (a b : Bool) → (a && b) ≡ true → (a ≡ true) × (b ≡ true)
-both_true true b e = (refl, e)
-both_true false b e = no_truth e
-
 pub all_in : (test : Dir → Bool) (ds : List Dir) → list_all test ds ≡ true → (d : Dir) → In d ds → test d ≡ true
 all_in test [] e d i = absurd i
-all_in test (x ∷ ds) e d (inl s) = ap test s ∙ (both_true (test x) (list_all test ds) e).0
-all_in test (x ∷ ds) e d (inr i) = all_in test ds (both_true (test x) (list_all test ds) e).1 d i
+all_in test (x ∷ ds) e d (inl s) = ap test s ∙ (and_parts (test x) (list_all test ds) e).0
+all_in test (x ∷ ds) e d (inr i) = all_in test ds (and_parts (test x) (list_all test ds) e).1 d i
 
 in_all : (test : Dir → Bool) (ds : List Dir) → ((d : Dir) → In d ds → test d ≡ true) → list_all test ds ≡ true
 in_all test [] h = refl
@@ -183,9 +180,6 @@ shorter n x k p e h l = at_least (unsigned_abs k) (unsigned_abs p) n (omega (ari
 pub short_reduced : (l d : Dir) → Reduces l.x l.y d.x d.y → IsShort l → IsShort d
 short_reduced l d r s = (shorter (2 ^ 22) l.x r.k d.x r.x_is r.positive s.0, shorter (2 ^ 22) l.y r.k d.y r.y_is r.positive s.1)
 
-pub some_direction : (d : Dir) → IsDirection d → 0 < unsigned_abs d.x + unsigned_abs d.y
-some_direction d n = some_size d.x d.y n
-
 -- ---- along any direction
 pub inner_is_below : (S : List Spot) (q : Point) (d : Dir) → HasArea S → IsPrimitive d.x d.y → Inner S q → clear_of S q d ≡ true
 inner_is_below S q d area prim m = yes_clear S q d (λ n b. never (below (some_below S d (greatest_along d S) area prim is.bound)) b)
@@ -222,7 +216,7 @@ pub inner_is_all : (A B F : List Spot) (q : Point) → AreOutlines A B F → IsP
 inner_is_all A B F q o is =
     let c = inner_is_clear A B F q o o.a_area is in
     let area = area_of_corners A B F o o.a_area in
-    (λ e. c.0 (both_true _ _ e).1, λ m. ap₂ (λ a b. a && b) (inner_in_box (difference A B F) q area m) (c.1 m))
+    (λ e. c.0 (and_parts _ _ e).1, λ m. ap₂ (λ a b. a && b) (inner_in_box (difference A B F) q area m) (c.1 m))
 
 pub free_is_all : (A B F : List Spot) (q : Point) → AreOutlines A B F → IsPoint q
     → (in_box (difference A B F) q && list_all (clear_of (difference A B F) q) (all_edges A B F) ≡ true) ↔ BeyondNoSide (difference A B F) q

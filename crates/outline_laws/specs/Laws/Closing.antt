@@ -14,7 +14,7 @@ use Rattle.integer_laws.specs.Members.{In}
 use Rattle.integer_laws.specs.Laws.Members.{In-from_contains}
 use Rattle.seq_model.specs.declared.printer.Spot.{Spot}
 use Rattle.outline_laws.specs.Corners.{turn, HasArea}
-use Rattle.outline_laws.specs.Laws.Vectors.{less, cross, height, three, rises, cross_back, turn_back, turn_behind}
+use Rattle.outline_laws.specs.Laws.Vectors.{less, cross, height, height_cross, rises, cross_back, turn_back, turn_behind}
 use Rattle.outline_laws.specs.Laws.Polygons.{last_of, next_of, Steps, TurnsAlong, Seen}
 use Rattle.outline_laws.specs.Laws.ChainLaws.{StepsUp, Bends, BendsOn, LeftOf, bottom}
 
@@ -70,7 +70,7 @@ on_line hx hy a b c s p q e h =
     let z = less b s in
     let up = rises hx hy a b p in
     rw (turn_back a b s)
-    (flat_z (height hx hy u) (height hx hy v) (height hx hy z) (cross v z) (cross v u) (cross u z) (cross z u) (rises hx hy c b q) (weak _ up) (rw (sym (turn_behind b c s)) h) (sym (turn_back a b c) ∙ e) (three hx hy v u z) (cross_back z u))
+    (flat_z (height hx hy u) (height hx hy v) (height hx hy z) (cross v z) (cross v u) (cross u z) (cross z u) (rises hx hy c b q) (weak _ up) (rw (sym (turn_behind b c s)) h) (sym (turn_back a b c) ∙ e) (height_cross hx hy v u z) (cross_back z u))
   where
     weak : (n : ℤ) → pos 0 <ℤ n → pos 0 ≤ℤ n
     weak n h = omega (arith, ints)
@@ -86,7 +86,7 @@ no_area hx hy a b i j k p e f g t =
     let u = less b a in
     let x = less j i in
     let y = less k i in
-    flat_area (height hx hy u) (height hx hy x) (height hx hy y) (cross x y) (cross x u) (cross u y) (rises hx hy a b p) t (turn_less a b i j ∙ zero _ _ e f) (turn_less_back a b i k ∙ zero _ _ g e) (three hx hy x u y)
+    flat_area (height hx hy u) (height hx hy x) (height hx hy y) (cross x y) (cross x u) (cross u y) (rises hx hy a b p) t (turn_less a b i j ∙ zero _ _ e f) (turn_less_back a b i k ∙ zero _ _ g e) (height_cross hx hy x u y)
   where
     zero : (m n : ℤ) → m ≡ pos 0 → n ≡ pos 0 → m -ℤ n ≡ pos 0
     zero m n e f = omega (arith, ints)

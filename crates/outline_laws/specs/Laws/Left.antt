@@ -12,6 +12,7 @@ use Rattle.std.specs.Prelude.{int_lt}
 use Rattle.std.specs.Ordering.{int_eq}
 use Rattle.std.proofs.lemmas.Int.{ints, by_lt_z}
 use Rattle.std.proofs.lemmas.Bool.Decides.{nat_tests}
+use Rattle.std.proofs.lemmas.Bool.{and_parts}
 use Rattle.integer_laws.specs.Laws.Ring.{expand}
 use Rattle.integer_laws.specs.Laws.Order.{same_from, lt_from}
 use Rattle.integer_laws.specs.Members.{In}
@@ -48,14 +49,10 @@ left_true m n t f e = grind (arith, ints, nat_tests)
 true_left : (m n t : ℤ) → t ≡ n -ℤ m → pos 0 <ℤ t → int_lt m n ≡ true
 true_left m n t f h = grind (arith, ints, nat_tests)
 
-both_true : (a b : Bool) → (a && b) ≡ true → (a ≡ true) × (b ≡ true)
-both_true true b e = (refl, e)
-both_true false b e = no_truth e
-
 left_steps : (q : Point) (u : Spot) (vs : List Spot) → all_left q u vs ≡ true → IsLeft q u vs
 left_steps q u [] e = tt
 left_steps q u (v ∷ vs) e =
-    let both = both_true (is_left q u v) (all_left q v vs) e in
+    let both = and_parts (is_left q u v) (all_left q v vs) e in
     (left_true ((raw u v).x *ℤ q.x +ℤ (raw u v).y *ℤ q.y) (along (raw u v) u *ℤ q.d) (turn_at u v q) (turn_is u v q) both.0, left_steps q v vs both.1)
 
 steps_left : (q : Point) (u : Spot) (vs : List Spot) → IsLeft q u vs → all_left q u vs ≡ true
@@ -119,7 +116,7 @@ true_lt m n h = grind (arith, ints, nat_tests)
 
 inner_at : (c : Spot) (q : Point) → IsPoint q → is_at q c ≡ true → Inner (c ∷ []) q
 inner_at c q is e =
-    let both = both_true (int_eq q.x (c.x *ℤ q.d)) (int_eq q.y (c.y *ℤ q.d)) e in
+    let both = and_parts (int_eq q.x (c.x *ℤ q.d)) (int_eq q.y (c.y *ℤ q.d)) e in
     record {
       point = is;
       w = pos 1 ∷ [];
@@ -170,8 +167,8 @@ length_ahead u v h = lt_from (norm (v.x -ℤ u.x) (v.y -ℤ u.y) some) (simp exp
 inner_between : (u v : Spot) (q : Point) → IsPoint q → is_between q u v ≡ true → Inner (u ∷ v ∷ []) q
 inner_between u v q is e =
     let t = ahead u v in
-    let one = both_true (int_eq (value (raw u v) q) (along (raw u v) u *ℤ q.d)) (int_lt (along (ahead u v) u *ℤ q.d) (value (ahead u v) q) && int_lt (value (ahead u v) q) (along (ahead u v) v *ℤ q.d)) e in
-    let two = both_true (int_lt (along (ahead u v) u *ℤ q.d) (value (ahead u v) q)) (int_lt (value (ahead u v) q) (along (ahead u v) v *ℤ q.d)) one.1 in
+    let one = and_parts (int_eq (value (raw u v) q) (along (raw u v) u *ℤ q.d)) (int_lt (along (ahead u v) u *ℤ q.d) (value (ahead u v) q) && int_lt (value (ahead u v) q) (along (ahead u v) v *ℤ q.d)) e in
+    let two = and_parts (int_lt (along (ahead u v) u *ℤ q.d) (value (ahead u v) q)) (int_lt (value (ahead u v) q) (along (ahead u v) v *ℤ q.d)) one.1 in
     let a = over _ _ (lt_true (along (ahead u v) u *ℤ q.d) (value (ahead u v) q) two.0) in
     let b = over _ _ (lt_true (value (ahead u v) q) (along (ahead u v) v *ℤ q.d) two.1) in
     mean_of_ends (pos 1) t.x t.y u v q is (level (eq_true (value (raw u v) q) (along (raw u v) u *ℤ q.d) one.0)) (sum _ _ b a) b a

@@ -5,12 +5,9 @@
 --   edge_if t u v, edges_if t C     the directions of edges, turned round where t is true
 --   edges_plain, edges_turned
 --   first-append                    the first after a direction, of a joined list
-use Rattle.std.proofs.Common.{◌≡◌, ◌≤◌, ◌+◌, ℕ, zero, suc, length, get_or, arith, List, [], ◌∷◌, ◌++◌, map, refl, ap, ℤ, true, false, Option, fold}
+use Rattle.std.proofs.Common.{◌≡◌, ◌+◌, ℕ, zero, suc, length, get_or, arith, List, [], ◌∷◌, ◌++◌, map, refl, ap, true, false, Option}
 use Rattle.seq_model.specs.declared.printer.Spot.{Spot}
 use Rattle.seq_model.specs.declared.tree.Dir.{Dir}
-use Rattle.std.specs.Int.{int_max}
-use Rattle.std.proofs.lemmas.Int.{ints, clamps}
-use Rattle.seq_model.specs.Sides.{along, greatest_along}
 use Rattle.outline_laws.specs.Laws.Polygons.{last_of}
 pub use Rattle.outline_laws.specs.Edges.{last_in_list, back, edge_if, edges_along, edges_if, raw, raws, edges_of}
 pub use Rattle.outline_laws.specs.Directions.{IsShort, IsShortOption, crossed, better, first_after}
@@ -43,9 +40,3 @@ first-append after best [] es = refl
 first-append after best (d ∷ ds) es = first-append after (better after best d) ds es
 
 -- ---- the greatest value
-pub greatest_from_first : (dir : Dir) (C : List Spot) (d : Spot) → 1 ≤ length C → fold int_max (along dir (get_or C 0 d)) (map (along dir) C) ≡ greatest_along dir C
-greatest_from_first dir [] d h = absurd (omega (arith, h))
-greatest_from_first dir (c ∷ cs) d h = ap (λ n. fold int_max n (map (along dir) cs)) (once (along dir c))
-  where
-    once : (n : ℤ) → int_max n n ≡ n
-    once n = omega (arith, ints, clamps)

@@ -6,7 +6,7 @@
 --   height hx hy u      how far u reaches along (hx, hy)
 --   turn_on, turn_back, turn_turned, turn_from, turn_behind, turn_apart      a turn as a cross product
 --   turn_round, turn_flipped                                    turns of the same three points
---   three               the identity of three vectors and a direction
+--   height_cross        the identity of three vectors and a direction
 --   between, strictly_between    of three vectors that go up, the middle one between the others
 --   rises, rises_or_same         the vector to a higher point goes up
 --   opposite, rising, falling    heights against the direction
@@ -64,21 +64,21 @@ pub cross_back : (u v : Spot) → cross u v ≡ neg_ℤ (cross v u)
 cross_back u v = simp expand (omega (arith, ints))
 
 -- ---- along a direction
-pub three : (hx hy : ℤ) (u v w : Spot) → height hx hy v *ℤ cross u w ≡ height hx hy w *ℤ cross u v +ℤ height hx hy u *ℤ cross v w
-three hx hy u v w = simp expand (omega (arith, ints))
+pub height_cross : (hx hy : ℤ) (u v w : Spot) → height hx hy v *ℤ cross u w ≡ height hx hy w *ℤ cross u v +ℤ height hx hy u *ℤ cross v w
+height_cross hx hy u v w = simp expand (omega (arith, ints))
 
 pub between : (hx hy : ℤ) (u v w : Spot) → pos 0 <ℤ height hx hy v → pos 0 ≤ℤ height hx hy u → pos 0 ≤ℤ height hx hy w → pos 0 ≤ℤ cross u v → pos 0 ≤ℤ cross v w → pos 0 ≤ℤ cross u w
 between hx hy u v w p q r h k =
     let a = mul_nonneg _ _ r h in
     let b = mul_nonneg _ _ q k in
-    let e = three hx hy u v w in
+    let e = height_cross hx hy u v w in
     cancel_le (height hx hy v) p (le_from (add_le a b) (rw e (omega (arith, ints))))
 
 pub strictly_between : (hx hy : ℤ) (u v w : Spot) → pos 0 <ℤ height hx hy v → pos 0 ≤ℤ height hx hy u → pos 0 <ℤ height hx hy w → pos 0 <ℤ cross u v → pos 0 ≤ℤ cross v w → pos 0 <ℤ cross u w
 strictly_between hx hy u v w p q r h k =
     let a = mul_positive _ _ r h in
     let b = mul_nonneg _ _ q k in
-    let e = three hx hy u v w in
+    let e = height_cross hx hy u v w in
     cancel_lt (height hx hy v) p (lt_from (add_lt_le a b) (rw e (omega (arith, ints))))
 
 rise : (hx hy : ℤ) (a b : Spot) → height hx hy (less b a) ≡ height hx hy b -ℤ height hx hy a

@@ -6,11 +6,12 @@
 --   Limit                 a direction with the greatest value along it
 --   AreLimits S ls        the sides of S with their greatest values
 --   inside_limits         a point is inner to S exactly where it is below all limits
-use Rattle.std.proofs.Common.{◌≡◌, List, [], ◌∷◌, map, refl, ap, ap₂, sym, subst, arith, ℤ, ◌+ℤ◌, ◌*ℤ◌, ◌≤ℤ◌, ◌<ℤ◌, ◌↔◌, inl, inr, Bool, true, false, not, ◌&&◌}
+use Rattle.std.proofs.Common.{◌≡◌, List, [], ◌∷◌, map, refl, ap, ap₂, sym, subst, arith, ℤ, ◌+ℤ◌, ◌*ℤ◌, ◌≤ℤ◌, ◌<ℤ◌, ◌↔◌, inl, inr, Bool, true, not, ◌&&◌}
 use Rattle.std.specs.Prelude.{int_lt}
 use Rattle.std.specs.List.{list_all}
 use Rattle.std.proofs.lemmas.Bool.Decides.{nat_tests}
 use Rattle.std.proofs.lemmas.Int.{ints}
+use Rattle.std.proofs.lemmas.Bool.{and_parts}
 use Rattle.integer_laws.specs.Divisors.{IsPrimitive}
 use Rattle.integer_laws.specs.Members.{In}
 use Rattle.integer_laws.specs.Laws.Members.{In-from_contains, Contains-from_in, In-map, In-map_cases}
@@ -51,10 +52,6 @@ same_le {a} = omega (arith, ints)
 pub out_of_reach : (S : List Spot) (q : Point) (dir : Dir) → HasArea S → IsPrimitive dir.x dir.y → Beyond S dir q → Inner S q → ⊥
 out_of_reach S q dir s prim beyond m = never (below_bound S q dir (greatest_along dir S) s prim same_le m) beyond
 
--- covering goes on from list to list, and each list covers itself
-pub covers_itself : (S : List Spot) → Covers S S
-covers_itself S dir side = same_le
-
 -- ---- sides with their greatest values
 abbrev pub IsUnder : Point → Limit → Type 0
 IsUnder q l = (l.dir.x *ℤ q.x +ℤ l.dir.y *ℤ q.y) <ℤ (l.most *ℤ q.d)
@@ -87,17 +84,10 @@ lt_true m n e = grind (arith, ints, nat_tests)
 true_lt : (m n : ℤ) → m <ℤ n → int_lt m n ≡ true
 true_lt m n h = grind (arith, ints, nat_tests)
 
-pub no_truth : {P : Type 0} → false ≡ true → P
-no_truth e = cc
-
-pub both_true : (a b : Bool) → (a && b) ≡ true → (a ≡ true) × (b ≡ true)
-both_true true b e = (refl, e)
-both_true false b e = no_truth e
-
 under_all : (q : Point) (ls : List Limit) → list_all (is_under q) ls ≡ true → (l : Limit) → In l ls → IsUnder q l
 under_all q [] e l i = absurd i
-under_all q (k ∷ ls) e l (inl s) = subst (IsUnder q) (sym s) (lt_true (k.dir.x *ℤ q.x +ℤ k.dir.y *ℤ q.y) (k.most *ℤ q.d) (both_true (is_under q k) (list_all (is_under q) ls) e).0)
-under_all q (k ∷ ls) e l (inr i) = under_all q ls (both_true (is_under q k) (list_all (is_under q) ls) e).1 l i
+under_all q (k ∷ ls) e l (inl s) = subst (IsUnder q) (sym s) (lt_true (k.dir.x *ℤ q.x +ℤ k.dir.y *ℤ q.y) (k.most *ℤ q.d) (and_parts (is_under q k) (list_all (is_under q) ls) e).0)
+under_all q (k ∷ ls) e l (inr i) = under_all q ls (and_parts (is_under q k) (list_all (is_under q) ls) e).1 l i
 
 all_under : (q : Point) (ls : List Limit) → ((l : Limit) → In l ls → IsUnder q l) → list_all (is_under q) ls ≡ true
 all_under q [] h = refl
@@ -134,8 +124,8 @@ true_short m n h = grind (arith, ints, nat_tests)
 
 short_all : (S : List Spot) (ls : List Limit) → list_all (is_short_of S) ls ≡ true → (l : Limit) → In l ls → greatest_along l.dir S ≤ℤ l.most
 short_all S [] e l i = absurd i
-short_all S (k ∷ ls) e l (inl s) = subst (λ (t : Limit). greatest_along t.dir S ≤ℤ t.most) (sym s) (short_true k.most (greatest_along k.dir S) (both_true (is_short_of S k) (list_all (is_short_of S) ls) e).0)
-short_all S (k ∷ ls) e l (inr i) = short_all S ls (both_true (is_short_of S k) (list_all (is_short_of S) ls) e).1 l i
+short_all S (k ∷ ls) e l (inl s) = subst (λ (t : Limit). greatest_along t.dir S ≤ℤ t.most) (sym s) (short_true k.most (greatest_along k.dir S) (and_parts (is_short_of S k) (list_all (is_short_of S) ls) e).0)
+short_all S (k ∷ ls) e l (inr i) = short_all S ls (and_parts (is_short_of S k) (list_all (is_short_of S) ls) e).1 l i
 
 all_short : (S : List Spot) (ls : List Limit) → ((l : Limit) → In l ls → greatest_along l.dir S ≤ℤ l.most) → list_all (is_short_of S) ls ≡ true
 all_short S [] h = refl

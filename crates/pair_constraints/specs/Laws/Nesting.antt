@@ -13,6 +13,7 @@
 use Rattle.std.proofs.Common.{◌≡◌, ℕ, ◌≤◌, ◌<◌, ◌^◌, List, [], length, get_or, map, sym, subst, arith, Bool, true, false, ◌&&◌, All}
 use Rattle.std.proofs.lemmas.List.{length-map, get_or-map}
 use Rattle.std.proofs.lemmas.List.Elements.{All-map, All-weaker}
+use Rattle.std.proofs.lemmas.Bool.{and_parts}
 use Rattle.outline_laws.specs.Corners.{AreCorners, IsNarrow}
 use Rattle.outline_laws.specs.Outlines.{AreOutlines}
 use Rattle.search_laws.specs.Covering.{Covers}
@@ -28,7 +29,6 @@ use Rattle.seq_model.specs.declared.job.Zone.{Zone}
 use Rattle.seq_model.specs.declared.printer.Part.{Part}
 use Rattle.seq_model.specs.declared.printer.Spot.{Spot}
 use Rattle.seq_model.specs.declared.tree.Contact.{Contact}
-use Rattle.pair_constraints.specs.Laws.Covering.{both_true}
 use Rattle.pair_constraints.specs.Laws.Numbered.{AreBy}
 use Rattle.pair_constraints.specs.Laws.Reaching.{Outreaches, covers_of_reaches, difference_reaches}
 use Rattle.pair_constraints.specs.declared.nesting.Nested.{Nested}
@@ -120,10 +120,10 @@ covers_inside job nested inner outer is ci co si sj e =
   where
     by_part : (is_inside nested.parts inner.part outer.part ≡ true)
         × ((is_inside (get_or nested.zones inner.i []) inner.zi outer.zi && is_inside (get_or nested.zones inner.j []) inner.zj outer.zj) ≡ true)
-    by_part = both_true _ _ e
+    by_part = and_parts _ _ e
 
     by_zones : (is_inside (get_or nested.zones inner.i []) inner.zi outer.zi ≡ true) × (is_inside (get_or nested.zones inner.j []) inner.zj outer.zj ≡ true)
-    by_zones = both_true _ _ by_part.1
+    by_zones = and_parts _ _ by_part.1
 
     A : List Spot
     A = (zone_at job inner.i inner.zi).corners

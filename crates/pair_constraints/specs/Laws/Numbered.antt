@@ -2,15 +2,11 @@
 --
 --   AreBy P xs        of each member of the list, P of its number and it
 --   by-push           one more
---   by_none           no members
 --   by_at             one of them
 use Rattle.std.proofs.Common.{ℕ, zero, suc, ◌<◌, List, [], ◌∷◌, ◌++◌, length, get_or, arith}
 
 abbrev pub AreBy : {X : Type 0} → (ℕ → X → Type 0) → List X → Type 0
 AreBy {X} P xs = (k : ℕ) (d : X) → k < length xs → P k (get_or xs k d)
-
-pub by_none : {X : Type 0} (P : ℕ → X → Type 0) → AreBy P []
-by_none P k d l = absurd (omega (arith, l))
 
 pub by-push : {X : Type 0} (P : ℕ → X → Type 0) (xs : List X) (x : X) → AreBy P xs → P (length xs) x → AreBy P (xs ++ x ∷ [])
 by-push P [] x all here zero d l = here

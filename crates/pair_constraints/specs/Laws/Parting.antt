@@ -10,7 +10,7 @@
 use Rattle.std.proofs.Common.{◌≡◌, ℕ, zero, suc, ◌+◌, ◌<◌, ◌≤◌, List, [], ◌∷◌, ◌++◌, length, get_or, remove, take, refl, sym, subst, ◌∙◌, arith, All, AllPairs, ◌⊎◌, inl, inr}
 use Rattle.std.specs.List.{AllWithin}
 use Rattle.std.proofs.lemmas.List.Edits.{get_or-remove_below}
-use Rattle.std.proofs.lemmas.List.Elements.{All-map, All-more, All-nil, All-push, All-take, All-weaker}
+use Rattle.std.proofs.lemmas.List.Elements.{All-map, All-more, All-push, All-take, All-weaker}
 use Rattle.std.proofs.lemmas.List.Quantifiers.{all_pairs_push}
 use Rattle.model_laws.specs.Laws.Collisions.{any_default}
 use Rattle.std.proofs.lemmas.Bool.{cases_lt}
@@ -120,14 +120,6 @@ pair_of job i j contacts kept all apart first second = record {
   of = All-weaker (AreKeptOf job i j) (λ (k : Kept). IsOf job i j k.contact) (λ k a. a.of) kept all;
   enough = λ c is. let k = first c is in covered_onward job (contacts_of kept) k.by c is.is k.earlier k.later k.is k.covers (All-in (IsCovered job (contacts_of kept)) contacts k.by second k.member);
   apart = apart;
-}
-
-pub no_pair : (job : Job) (i j : ℕ) → i ≡ j → IsPair job i j []
-no_pair job i j same = record {
-  each = All-nil (IsKept job);
-  of = All-nil (λ (k : Kept). IsOf job i j k.contact);
-  enough = λ c is. absurd (is.is.apart (is.earlier ∙ same ∙ sym is.later));
-  apart = λ k l d h m. absurd (omega (arith, m));
 }
 
 in_take : {A : Type 0} (xs : List A) (n : ℕ) (x : A) → length xs ≤ n → In x xs → In x (take n xs)

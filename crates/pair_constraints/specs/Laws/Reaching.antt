@@ -13,6 +13,7 @@ use Rattle.std.proofs.Common.{◌≡◌, ◌≤◌, List, [], ◌∷◌, length,
 use Rattle.std.specs.Prelude.{int_lt}
 use Rattle.std.proofs.lemmas.Int.{ints, by_lt_z}
 use Rattle.std.proofs.lemmas.Bool.Decides.{nat_tests}
+use Rattle.std.proofs.lemmas.Bool.{and_parts}
 use Rattle.integer_laws.specs.Divisors.{IsPrimitive}
 use Rattle.integer_laws.specs.Laws.Members.{In-from_contains}
 use Rattle.integer_laws.specs.Laws.Order.{add_lt_le, mul_le, lt_from}
@@ -34,7 +35,7 @@ use Rattle.seq_model.specs.Points.{Point}
 use Rattle.seq_model.specs.Sides.{along, greatest_along, Side, Beyond}
 use Rattle.seq_model.specs.declared.printer.Spot.{Spot}
 use Rattle.seq_model.specs.declared.tree.Dir.{Dir}
-use Rattle.pair_constraints.specs.Laws.Covering.{below_bound, both_true}
+use Rattle.pair_constraints.specs.Laws.Covering.{below_bound}
 
 pub record Outreaches (T S : List Spot) : Type 0 where
   pub far : (dir : Dir) → IsPrimitive dir.x dir.y → greatest_along dir S ≤ℤ greatest_along dir T
@@ -153,9 +154,6 @@ pub covers_onward : (U T S : List Spot) → HasArea T → HasArea S → Covers U
 covers_onward U T S t s further covers dir side =
     under ((reaches_of_covers T S s.i (In-from_contains S s.i s.i_in) t covers).far dir side.primitive) (further dir side)
 
-pub reaches_itself : (S : List Spot) → Outreaches S S
-reaches_itself S = record { far = λ dir prim. same_le }
-
 -- ---- differences
 pub difference_reaches : (A B F C D E : List Spot) → 1 ≤ length A → 1 ≤ length B → 1 ≤ length F → 1 ≤ length C → 1 ≤ length D → 1 ≤ length E
     → Outreaches C A → Outreaches D B → Outreaches E F → Outreaches (difference C D E) (difference A B F)
@@ -188,7 +186,7 @@ behind_true m n e = grind (arith, ints, nat_tests)
 steps_behind : (S : List Spot) (u : Spot) (vs : List Spot) → are_behind S u vs ≡ true → Steps (IsBehind S) u vs
 steps_behind S u [] e = tt
 steps_behind S u (v ∷ vs) e =
-    let r = both_true (is_behind S u v) (are_behind S v vs) e in
+    let r = and_parts (is_behind S u v) (are_behind S v vs) e in
     (behind_true (along (raw u v) v) (greatest_along (raw u v) S) r.0, steps_behind S v vs r.1)
 
 turn_of_raw : (ux uy vx vy sx sy : ℤ) → (vx -ℤ ux) *ℤ (sy -ℤ uy) -ℤ (vy -ℤ uy) *ℤ (sx -ℤ ux) ≡ ((vy -ℤ uy) *ℤ vx +ℤ (ux -ℤ vx) *ℤ vy) -ℤ ((vy -ℤ uy) *ℤ sx +ℤ (ux -ℤ vx) *ℤ sy)

@@ -12,8 +12,8 @@ use Rattle.integer_laws.specs.Laws.Members.{All-in, All-from_in, In-append_left,
 use Rattle.model_laws.specs.Laws.Collisions.{any_default}
 use Rattle.search_laws.specs.Covering.{Covers, IsCovered}
 use Rattle.search_laws.specs.Laws.Gaps.{area_of_contact}
-use Rattle.seq_model.specs.Contacts.{IsContact, ZonesMeet, points_of}
-use Rattle.seq_model.specs.Jobs.{part_at, zone_at, zones_of}
+use Rattle.seq_model.specs.Contacts.{IsContact, points_of}
+use Rattle.seq_model.specs.Jobs.{zones_of}
 use Rattle.seq_model.specs.declared.job.Job.{Job}
 use Rattle.seq_model.specs.declared.tree.Contact.{Contact}
 use Rattle.pair_constraints.specs.Maximal.{IsOf}
@@ -33,8 +33,6 @@ pub record LeavesOut (job : Job) (by : Contact) (old new : List Contact) : Type 
   pub cases : (c : Contact) → In c old → In c new ⊎ Covers (points_of job by) (points_of job c)
 
 -- ---- steps
-pub settles_none : (job : Job) (P : Contact → Type 0) (kept : List Contact) → ((c : Contact) → P c → ⊥) → Settles job P kept kept
-settles_none job P kept none = record { done = λ c p. absurd (none c p); onward = λ c is covered. covered }
 
 pub settles_then : (job : Job) (P Q R : Contact → Type 0) (a b c : List Contact) → ((x : Contact) → R x → IsContact job x × (P x ⊎ Q x)) → Settles job P a b → Settles job Q b c → Settles job R a c
 settles_then job P Q R a b c cases first second = record { done = λ x r. done x (cases x r); onward = λ x is covered. second.onward x is (first.onward x is covered) }
@@ -42,9 +40,6 @@ settles_then job P Q R a b c cases first second = record { done = λ x r. done x
     done : (x : Contact) → IsContact job x × (P x ⊎ Q x) → IsCovered job c x
     done x (is, inl p) = second.onward x is (first.done x p)
     done x (is, inr q) = second.done x q
-
-pub settles_same : (job : Job) (P Q : Contact → Type 0) (a b : List Contact) → ((x : Contact) → Q x → P x) → Settles job P a b → Settles job Q a b
-settles_same job P Q a b of s = record { done = λ x q. s.done x (of x q); onward = s.onward }
 
 pub covered_onward : (job : Job) (kept : List Contact) (c d : Contact) → IsContact job d → c.i ≡ d.i → c.j ≡ d.j → IsContact job c → Covers (points_of job c) (points_of job d) → IsCovered job kept c → IsCovered job kept d
 covered_onward job kept c d is si sj isc covers by = record {
@@ -55,9 +50,6 @@ covered_onward job kept c d is si sj isc covers by = record {
   later = by.later ∙ sj;
   covers = covers_onward (points_of job by.by) (points_of job c) (points_of job d) (area_of_contact job c isc) (area_of_contact job d is) by.covers covers;
 }
-
-pub settles_covered : (job : Job) (x : Contact) (kept : List Contact) → IsCovered job kept x → Settles job (λ c. c ≡ x) kept kept
-settles_covered job x kept covered = record { done = λ c e. subst (IsCovered job kept) (sym e) covered; onward = λ c is by. by }
 
 same_le : {a : ℤ} → a ≤ℤ a
 same_le {a} = omega (arith, ints)
@@ -93,8 +85,6 @@ settles_pushed job i j x old mid is all leaves = record {
         }
 
 -- ---- taking away
-pub leaves_none : (job : Job) (by : Contact) (kept : List Contact) → LeavesOut job by kept kept
-leaves_none job by kept = record { cases = λ c i. inl i }
 
 pub In-remove : {A : Type 0} (xs : List A) (k : ℕ) (x : A) → In x (remove xs k) → In x xs
 In-remove [] zero x i = i
@@ -160,17 +150,8 @@ pub record IsNamed (job : Job) (c : Contact) : Type 0 where
   pub zj_in : c.zj < length (zones_of job c.j)
   pub part_in : c.part < length job.printer.parts
 
-pub contact_named : (job : Job) (c : Contact) → IsNamed job c → ZonesMeet (zone_at job c.i c.zi) (part_at job c.part) (zone_at job c.j c.zj) → IsContact job c
-contact_named job c is meet = record { i_in = is.i_in; j_in = is.j_in; apart = is.apart; zi_in = is.zi_in; zj_in = is.zj_in; part_in = is.part_in; meet = meet }
-
 abbrev pub IsThe : Job → Contact → Contact → Type 0
 IsThe job the c = IsContact job c × (c ≡ the)
-
-pub settles_no : (job : Job) (x : Contact) (kept : List Contact) → (IsContact job x → ⊥) → Settles job (IsThe job x) kept kept
-settles_no job x kept none = settles_none job (IsThe job x) kept (λ c p. none (subst (IsContact job) p.1 p.0))
-
-pub settles_the : (job : Job) (x : Contact) (a b : List Contact) → Settles job (λ c. c ≡ x) a b → Settles job (IsThe job x) a b
-settles_the job x a b s = settles_same job (λ c. c ≡ x) (IsThe job x) a b (λ c p. p.1) s
 
 part_cases : (job : Job) (i zi zj j k : ℕ) (c : Contact) → PartsBelow job i zi zj j (k + 1) c → PartsBelow job i zi zj j k c ⊎ IsThe job (contact_of i zi k zj j) c
 part_cases job i zi zj j k c p = by (below_or_at c.part k p.1)
@@ -179,18 +160,9 @@ part_cases job i zi zj j k c p = by (below_or_at c.part k p.1)
     by (inl l) = inl (p.0, l)
     by (inr e) = inr (p.0.0.is, the_contact c i zi k zj j p.0.0.earlier p.0.2 e p.0.1 p.0.0.later)
 
-pub parts_begin : (job : Job) (i zi zj j : ℕ) (kept : List Contact) → Settles job (PartsBelow job i zi zj j 0) kept kept
-parts_begin job i zi zj j kept = settles_none job (PartsBelow job i zi zj j 0) kept (λ c p. absurd (omega (arith, p.1)))
-
 pub parts_more : (job : Job) (i zi zj j k : ℕ) (a b c : List Contact) → Settles job (PartsBelow job i zi zj j k) a b → Settles job (IsThe job (contact_of i zi k zj j)) b c → Settles job (PartsBelow job i zi zj j (k + 1)) a c
 parts_more job i zi zj j k a b c first second =
     settles_then job (PartsBelow job i zi zj j k) (IsThe job (contact_of i zi k zj j)) (PartsBelow job i zi zj j (k + 1)) a b c (λ x p. (p.0.0.is, part_cases job i zi zj j k x p)) first second
-
-pub parts_end : (job : Job) (i zi zj j : ℕ) (a b : List Contact) → Settles job (PartsBelow job i zi zj j (length job.printer.parts)) a b → Settles job (AtZones job i zi zj j) a b
-parts_end job i zi zj j a b s = settles_same job (PartsBelow job i zi zj j (length job.printer.parts)) (AtZones job i zi zj j) a b (λ x p. (p, p.0.is.part_in)) s
-
-pub zones_begin : (job : Job) (i zj j : ℕ) (kept : List Contact) → Settles job (ZonesBelow job i zj j 0) kept kept
-zones_begin job i zj j kept = settles_none job (ZonesBelow job i zj j 0) kept (λ c p. absurd (omega (arith, p.1)))
 
 pub zones_more : (job : Job) (i zj j z : ℕ) (a b c : List Contact) → Settles job (ZonesBelow job i zj j z) a b → Settles job (AtZones job i z zj j) b c → Settles job (ZonesBelow job i zj j (z + 1)) a c
 zones_more job i zj j z a b c first second =
@@ -200,12 +172,6 @@ zones_more job i zj j z a b c first second =
     cases x p (inl l) = inl (p.0, l)
     cases x p (inr e) = inr (p.0.0, p.0.1, e)
 
-pub zones_end : (job : Job) (i zj j : ℕ) (a b : List Contact) → Settles job (ZonesBelow job i zj j (length (zones_of job i))) a b → Settles job (AtZone job i zj j) a b
-zones_end job i zj j a b s = settles_same job (ZonesBelow job i zj j (length (zones_of job i))) (AtZone job i zj j) a b (λ x p. (p, subst (λ t. x.zi < length (zones_of job t)) p.0.earlier p.0.is.zi_in)) s
-
-pub later_begin : (job : Job) (i j : ℕ) (kept : List Contact) → Settles job (LaterBelow job i j 0) kept kept
-later_begin job i j kept = settles_none job (LaterBelow job i j 0) kept (λ c p. absurd (omega (arith, p.1)))
-
 pub later_more : (job : Job) (i j z : ℕ) (a b c : List Contact) → Settles job (LaterBelow job i j z) a b → Settles job (AtZone job i z j) b c → Settles job (LaterBelow job i j (z + 1)) a c
 later_more job i j z a b c first second =
     settles_then job (LaterBelow job i j z) (AtZone job i z j) (LaterBelow job i j (z + 1)) a b c (λ x p. (p.0.is, cases x p (below_or_at x.zj z p.1))) first second
@@ -213,9 +179,6 @@ later_more job i j z a b c first second =
     cases : (x : Contact) → LaterBelow job i j (z + 1) x → (x.zj < z) ⊎ (x.zj ≡ z) → LaterBelow job i j z x ⊎ AtZone job i z j x
     cases x p (inl l) = inl (p.0, l)
     cases x p (inr e) = inr (p.0, e)
-
-pub later_end : (job : Job) (i j : ℕ) (kept : List Contact) → Settles job (LaterBelow job i j (length (zones_of job j))) [] kept → (c : Contact) → IsOf job i j c → IsCovered job kept c
-later_end job i j kept s c is = s.done c (is, subst (λ t. c.zj < length (zones_of job t)) is.later is.is.zj_in)
 
 -- ---- one of a list
 pub in_at : {A : Type 0} (xs : List A) (k : ℕ) (x : A) → k < length xs → x ≡ get_or xs k x → In x xs

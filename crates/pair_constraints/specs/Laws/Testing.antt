@@ -14,6 +14,7 @@ use Rattle.std.specs.List.{list_all}
 use Rattle.std.proofs.lemmas.Int.{ints}
 use Rattle.std.proofs.lemmas.Bool.Decides.{nat_tests}
 use Rattle.std.proofs.Math.Nat.{eq-one_of_dvd-one}
+use Rattle.std.proofs.lemmas.Bool.{and_parts}
 use Rattle.integer_laws.specs.Divisors.{IsPrimitive, AreCoprime}
 use Rattle.integer_laws.specs.Laws.Ring.{expand}
 use Rattle.outline_laws.specs.Corners.{HasArea}
@@ -31,7 +32,7 @@ use Rattle.seq_model.specs.declared.job.Job.{Job}
 use Rattle.seq_model.specs.declared.printer.Spot.{Spot}
 use Rattle.seq_model.specs.declared.tree.Dir.{Dir}
 use Rattle.pair_constraints.specs.Keeping.{IsReach, IsKept, shift_at}
-use Rattle.pair_constraints.specs.Laws.Covering.{below_bound, is_under, under_is_inner, both_true}
+use Rattle.pair_constraints.specs.Laws.Covering.{below_bound, is_under, under_is_inner}
 use Rattle.pair_constraints.specs.declared.kept.Kept.{Kept}
 use Rattle.pair_constraints.specs.declared.kept.Reach.{Reach}
 use Rattle.pair_constraints.specs.declared.testing.Gap.{Gap}
@@ -141,7 +142,7 @@ inner_in_reach S q r area is m = all_four _ _ _ _ (true_lt _ _ east) (true_lt _ 
 -- ---- the contact
 pub met_where_collides : (job : Job) (e : ℕ) (k : Kept) (at : Values) → IsKept job k → pos 1 ≤ℤ at.d → (is_met (gap_of k at) k ≡ true) ↔ ContactCollidesAt job e at k.contact
 met_where_collides job e k at is one = (
-  λ t. hits.1 (is.is, subst (Inner (points_of job k.contact)) same (short.0 (both_true (in_reach (gap_of k at) k.reach) (list_all (is_under (gap_of k at)) k.limits) t).1)),
+  λ t. hits.1 (is.is, subst (Inner (points_of job k.contact)) same (short.0 (and_parts (in_reach (gap_of k at) k.reach) (list_all (is_under (gap_of k at)) k.limits) t).1)),
   λ c. met (subst (Inner (points_of job k.contact)) (sym same) (hits.0 c).1),
 )
   where

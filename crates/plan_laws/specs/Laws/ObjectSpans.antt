@@ -13,7 +13,7 @@ use Rattle.integer_laws.specs.Extremes.{least, greatest}
 use Rattle.integer_laws.specs.Laws.Extremes.{greatest_is}
 use Rattle.integer_laws.specs.Members.{In}
 use Rattle.integer_laws.specs.Laws.Members.{In-from_contains, Contains-from_in, In-append_left, In-append_right, In-append_cases, In-map, In-map_cases, All-in, All-from_in}
-use Rattle.model_laws.specs.Laws.Collisions.{found, sound_object, sound_zone, spots_of_zone, below_bands}
+use Rattle.model_laws.specs.Laws.Collisions.{find_some, sound_object, sound_zone, spots_of_zone, below_bands}
 use Rattle.seq_model.specs.Jobs.{bands_of, no_zone, object_at, zone_at, holds_band, corners_or_none, scene_of_job}
 use Rattle.seq_model.specs.Scenes.{Between, SomeSpot, Spans}
 use Rattle.seq_model.specs.Soundness.{corners_of}
@@ -71,7 +71,7 @@ spot_corner job o b s i = by (find (holds_band b) (object_at job o).zones) refl 
     by : (z : Option Zone) → find (holds_band b) (object_at job o).zones ≡ z → In s (corners_or_none z) → In s (corners_of (object_at job o).zones)
     by None e i = absurd i
     by (Some z) e i =
-        let f = found b (object_at job o).zones z e in
+        let f = find_some b (object_at job o).zones z e in
         zone_corner (object_at job o).zones f.place s f.in_list (subst (λ (y : Zone). In s y.corners) (sym (f.is no_zone)) i)
 
 -- ---- an object with zones has corners

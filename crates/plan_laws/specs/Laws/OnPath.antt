@@ -1,11 +1,11 @@
 -- A test whether an order is on a path.
 --
 --   before_is, is_on      it is so exactly where it is a member
---   or_cases, and_cases   what two tests say together
+--   or_cases               what two tests say together
 --   never                 no test says both
 --   same_pair             a pair is itself
 use Rattle.std.proofs.Common.{◌≡◌, ℕ, Bool, true, false, cond, eqb, ◌&&◌, ◌||◌, List, [], ◌∷◌, refl, sym, ap, subst, ◌∙◌, inl, inr, ◌⊎◌}
-use Rattle.std.proofs.lemmas.Bool.{eqb-true, eq-eqb}
+use Rattle.std.proofs.lemmas.Bool.{eqb-true, eq-eqb, and_parts}
 use Rattle.integer_laws.specs.Members.{In}
 use Rattle.seq_model.specs.declared.tree.Choice.{Choice}
 use Rattle.seq_model.specs.declared.tree.Choice.TheVariants as Choices
@@ -14,10 +14,6 @@ use Rattle.plan_laws.specs.Looking.{is_before}
 pub or_cases : (a b : Bool) → (a || b) ≡ true → (a ≡ true) ⊎ (b ≡ true)
 or_cases true b h = inl refl
 or_cases false b h = inr h
-
-pub and_cases : (a b : Bool) → (a && b) ≡ true → (a ≡ true) × (b ≡ true)
-and_cases true b h = (refl, h)
-and_cases false b h = absurd (subst (λ (x : Bool). cond x ⊥ (Unit {0})) h tt)
 
 pub never : (b : Bool) → b ≡ true → b ≡ false → ⊥
 never b t f = subst (λ (x : Bool). cond x (Unit {0}) ⊥) (sym t ∙ f) tt
@@ -33,7 +29,7 @@ before_is (Choices.Before a b ∷ path) i j h = by (or_cases (eqb a i && eqb b j
   where
     by : (((eqb a i && eqb b j) ≡ true) ⊎ (is_before path i j ≡ true)) → (is_before path i j ≡ true → In (Choices.Before i j) path) → In (Choices.Before i j) (Choices.Before a b ∷ path)
     by (inl e) rest =
-        let t = and_cases (eqb a i) (eqb b j) e in
+        let t = and_parts (eqb a i) (eqb b j) e in
         inl (sym (ap (λ x. Choices.Before x b) (eqb-true a i t.0) ∙ ap (λ y. Choices.Before i y) (eqb-true b j t.1)))
     by (inr r) rest = inr (rest r)
 

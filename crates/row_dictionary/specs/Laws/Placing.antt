@@ -1,8 +1,7 @@
 -- Where a number stands in a list, and what stands beside it.
-use Rattle.std.proofs.Common.{◌≡◌, ℕ, zero, suc, ◌+◌, ◌<◌, ◌≤◌, List, [], ◌∷◌, ◌++◌, length, map, get_or, take, take_all, All, refl, ap, sym, subst, ◌∙◌, arith, ℤ, pos, Bool, true, false, ◌⊎◌, inl, inr}
+use Rattle.std.proofs.Common.{◌≡◌, ℕ, zero, suc, ◌+◌, ◌<◌, ◌≤◌, List, [], ◌∷◌, ◌++◌, length, map, get_or, All, refl, ap, sym, subst, ◌∙◌, arith, ℤ, pos, Bool, true, false, ◌⊎◌, inl, inr}
 use Rattle.std.proofs.lemmas.Bool.{cases_lt}
 use Rattle.std.proofs.lemmas.Bool.Decides.{nat_tests}
-use Rattle.std.proofs.lemmas.List.{take_more}
 use Rattle.std.proofs.lemmas.List.Elements.{All-cons}
 use Rattle.row_pivots.specs.Tables.{AreRowsOf}
 use Rattle.std.specs.List.{filter, range_with_len}
@@ -159,13 +158,6 @@ rising_out list z e =
 map_on : {A B : Type 0} (f : A → B) (xs : List A) (x : A) → map f (xs ++ x ∷ []) ≡ map f xs ++ f x ∷ []
 map_on f [] x = refl
 map_on f (y ∷ xs) x = ap (λ t. f y ∷ t) (map_on f xs x)
-
-pub lines_on : (rows : List Row) (i : ℕ) (row : Row) → i < length rows → get_or rows i row ≡ row → slack_lines (take (i + 1) rows) ≡ slack_lines (take i rows) ++ (row.c ∷ row.a) ∷ []
-lines_on rows i row h e =
-    ap slack_lines (take_more rows i row h) ∙ map_on (λ (x : Row). x.c ∷ x.a) (take i rows) (get_or rows i row) ∙ ap (λ (x : Row). slack_lines (take i rows) ++ (x.c ∷ x.a) ∷ []) e
-
-pub lines_whole : (rows : List Row) (i : ℕ) → length rows ≤ i → slack_lines (take i rows) ≡ slack_lines rows
-lines_whole rows i h = ap slack_lines (take_all i rows h)
 
 pub range_next : (a n : ℕ) → range_with_len a (n + 1) ≡ range_with_len a n ++ (a + n) ∷ []
 range_next a n = ap (range_with_len a) (one_on n) ∙ range_on a n

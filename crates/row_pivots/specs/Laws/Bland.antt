@@ -254,8 +254,8 @@ opposed_steps vars rows r a a' b b' w x s t e f h k =
     opposed vars rows a b s.form t.form r x.leave (subst (Leaves a s.form.lines) e s.leaves) t.leaves (subst (Enters (free_of (vars + length rows) b) (entries t.leaves.line)) f t.enters) h
     (λ y g i. free_keeps (vars + length rows) a b y (k y (omega (arith, g))) i)
 
-both : {A B C : Type 0} → A ↔ B → B ↔ C → A ↔ C
-both f g = (λ a. g.0 (f.0 a), λ c. f.1 (g.1 c))
+iff_trans : {A B C : Type 0} → A ↔ B → B ↔ C → A ↔ C
+iff_trans f g = (λ a. g.0 (f.0 a), λ c. f.1 (g.1 c))
 
 turn : {A B : Type 0} → A ↔ B → B ↔ A
 turn f = (f.1, f.0)
@@ -315,17 +315,17 @@ moved_twice vars rows r a a' b b' s t mid p run q ms mt us um ut = by ms mt
     first = above_keeps vars rows (suc r) a s a' p us
 
     whole : (y : ℕ) → suc r ≤ y → In y a ↔ In y b
-    whole y h = both (first y h) (run_keeps vars rows (suc r) a' mid b run um y h)
+    whole y h = iff_trans (first y h) (run_keeps vars rows (suc r) a' mid b run um y h)
 
     by : (s.enter ≡ r) ⊎ (s.leave ≡ r) → (t.enter ≡ r) ⊎ (t.leave ≡ r) → ⊥
     by (inr l) (inl e) = opposed_steps vars rows r a a' b b' s t p q l e (omega (arith, ut)) whole
     by (inl e) (inr l) = opposed_steps vars rows r b b' a a' t s q p l e (omega (arith, us)) (λ y h. turn (whole y h))
     by (inr l) (inr k) =
         let c = comes_in vars rows r a' mid b run um (λ i. leave_gone vars rows a s a' p (subst (λ t. In t a') (sym l) i)) (subst (λ x. In x b) k (leave_basic vars rows b t b' q)) in
-        opposed_steps vars rows r a a' c.here c.next s c.w p c.step l c.is (omega (arith, c.at_w)) (λ y h. both (first y h) (run_keeps vars rows (suc r) a' c.pre c.here c.before c.low y h))
+        opposed_steps vars rows r a a' c.here c.next s c.w p c.step l c.is (omega (arith, c.at_w)) (λ y h. iff_trans (first y h) (run_keeps vars rows (suc r) a' c.pre c.here c.before c.low y h))
     by (inl e) (inl f) =
         let c = goes_out vars rows r a' mid b run um (subst (λ x. In x a') e ((p.swaps s.enter).1 (inl refl))) (λ i. enter_not_basic vars rows b t b' q (subst (λ x. In x b) (sym f) i)) in
-        opposed_steps vars rows r c.here c.next a a' c.w s c.step p c.is e (omega (arith, us)) (λ y h. turn (both (first y h) (run_keeps vars rows (suc r) a' c.pre c.here c.before c.low y h)))
+        opposed_steps vars rows r c.here c.next a a' c.w s c.step p c.is e (omega (arith, us)) (λ y h. turn (iff_trans (first y h) (run_keeps vars rows (suc r) a' c.pre c.here c.before c.low y h)))
 
 pub never_twice : (vars : ℕ) (rows : List Row) (a : List ℕ) (ws : List Change) (b : List ℕ) → Run vars rows a ws b → NeverTwice ws
 never_twice vars rows a ws b run pre mid post s t r e ms mt us um ut =

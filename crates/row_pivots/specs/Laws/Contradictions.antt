@@ -7,7 +7,6 @@
 --   few_mults, some_mults, rising_mults, positive_mults     at most vars + 1 of them, at least one, by rising rows, each at least once
 use Rattle.std.proofs.Common.{◌≡◌, ℕ, zero, suc, ◌+◌, ◌-◌, ◌<◌, ◌≤◌, List, [], ◌∷◌, ◌++◌, length, map, get_or, All, refl, ap, ap₂, sym, subst, ◌∙◌, arith, ℤ, pos, neg_ℤ, ◌+ℤ◌, ◌-ℤ◌, ◌*ℤ◌, ◌≤ℤ◌, ◌<ℤ◌, ◌⊎◌, inl, inr, Bool, true, false, ◌||◌}
 use Rattle.std.proofs.lemmas.Bool.{cases_lt}
-use Rattle.std.proofs.lemmas.Bool.Decides.{nat_tests}
 use Rattle.std.proofs.lemmas.Int.{ints}
 use Rattle.std.proofs.lemmas.List.{length-map}
 use Rattle.std.proofs.lemmas.List.Filters.{length-filter_both}
@@ -216,8 +215,6 @@ rising_mults vars w n = to_rises 0 n (map (λ (m : Mult). m.row) (mults vars w n
     up r = omega arith
 
 -- ---- the weights of a table where nothing enters
-differs : (x y : ℕ) → (x ≡ y → ⊥) → nat_eq x y ≡ false
-differs x y n = grind (arith, nat_tests, n)
 
 pub entry_below : (free : List ℕ) (line : List ℤ) → NoEntry free line → (z : ℕ) → entry_of z free (entries line) ≤ℤ pos 0
 entry_below free line none z = by (true_or_false (is_in free z))

@@ -35,7 +35,7 @@ use Rattle.row_pivots.specs.Laws.Changes.{Change}
 use Rattle.row_pivots.specs.Tables.{AreRowsOf}
 use Rattle.row_pivots.specs.Turns.{entry_at, line_at}
 use Rattle.row_pivots.specs.Laws.Points.{climbs_fresh}
-use Rattle.row_pivots.specs.Laws.Sorted.{held, rising_members}
+use Rattle.row_pivots.specs.Laws.Sorted.{table_is_form, rising_members}
 use Rattle.row_pivots.specs.Tables.{Fresh, Holds, Held, rising, sorted_lines}
 use Rattle.row_pivots.specs.Laws.Turned.{turned, set_members, divides_self}
 use Rattle.row_pivots.specs.Turns.{turned_lines, quotients, IsContent}
@@ -198,7 +198,7 @@ made vars rows are basis f out l into en = record {
     sign = quotient_positive D (pos (content_of (unsigned_abs D) N)) positive (above (content_of (unsigned_abs D) N) some) (exact_quotient D (pos (content_of (unsigned_abs D) N)) ((content (content_of (unsigned_abs D) N)).0 (divides_self (content_of (unsigned_abs D) N))).0)
 
     H : Held vars rows (int_div D (pos (content_of (unsigned_abs D) N))) (set basis r (get_or (free_of (vars + length rows) basis) s 0)) (set (free_of (vars + length rows) basis) s (get_or basis r 0)) (map (quotients (pos (content_of (unsigned_abs D) N))) N)
-    H = held vars rows (int_div D (pos (content_of (unsigned_abs D) N))) (set basis r (get_or (free_of (vars + length rows) basis) s 0)) (set (free_of (vars + length rows) basis) s (get_or basis r 0)) (map (quotients (pos (content_of (unsigned_abs D) N))) N) T
+    H = table_is_form vars rows (int_div D (pos (content_of (unsigned_abs D) N))) (set basis r (get_or (free_of (vars + length rows) basis) s 0)) (set (free_of (vars + length rows) basis) s (get_or basis r 0)) (map (quotients (pos (content_of (unsigned_abs D) N))) N) T
       where
         T : Holds vars rows (int_div D (pos (content_of (unsigned_abs D) N))) (set basis r (get_or (free_of (vars + length rows) basis) s 0)) (set (free_of (vars + length rows) basis) s (get_or basis r 0)) (map (quotients (pos (content_of (unsigned_abs D) N))) N)
         T = turned vars rows f.d basis (free_of (vars + length rows) basis) f.lines h r s at_r.0 at_s.0 (pos (content_of (unsigned_abs D) N)) (not_zero (content_of (unsigned_abs D) N) some) content sign

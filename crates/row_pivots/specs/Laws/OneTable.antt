@@ -9,7 +9,7 @@ use Rattle.integer_laws.specs.Members.{In}
 use Rattle.row_laws.specs.Laws.Independence.{is_equal}
 use Rattle.row_laws.specs.Laws.OneForm.{one_form}
 use Rattle.row_pivots.specs.Laws.Pivoting.{Line}
-use Rattle.row_pivots.specs.Laws.Sorted.{held, rising_members, free_member, says_or, says_long}
+use Rattle.row_pivots.specs.Laws.Sorted.{table_is_form, rising_members, free_member, says_or, says_long}
 use Rattle.row_pivots.specs.Tables.{Fresh, Holds, Held, rising, sorted_line, sorted_lines, line_or, entry_of}
 use Rattle.seq_model.specs.Dictionaries.{free_of, Form}
 use Rattle.seq_model.specs.Walks.{constant, entries}
@@ -67,10 +67,10 @@ pub one_held : (vars : ℕ) (rows : List Row) (d e : ℤ) (basic free : List ℕ
 one_held vars rows d e basic free L M h k = (sym F.d_is ∙ same.0 ∙ G.d_is, same_list basic L M (says_long vars rows d free basic L h.says) (says_long vars rows e free basic M k.says) h.fresh_basic each)
   where
     F : Held vars rows d basic free L
-    F = held vars rows d basic free L h
+    F = table_is_form vars rows d basic free L h
 
     G : Held vars rows e basic free M
-    G = held vars rows e basic free M k
+    G = table_is_form vars rows e basic free M k
 
     same : (F.form.d ≡ G.form.d) × (F.form.lines ≡ G.form.lines)
     same = one_form vars rows (rising (vars + length rows) basic) F.form G.form

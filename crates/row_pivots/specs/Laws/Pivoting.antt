@@ -3,9 +3,6 @@
 --   AreRowsOf vars rows            each row has `vars` coefficients
 --   pivoted_line d ys k zs         the line zs of a variable that stays, where ys is the line of what leaves and k the place of what
 --                                  enters, over d times the entry of ys there
---   entered_line d ys k            the line of what enters
---   pivoted_lines d lines r k      all lines, where what leaves stands at place r, over the same
---   says_pivoted                   they say the new basis
 --   says_divided                   lines that say it still do where all numbers are divided by a common divisor, of either sign
 use Rattle.std.proofs.Common.{◌≡◌, ℕ, zero, suc, ◌+◌, ◌-◌, ◌<◌, ◌≤◌, max, List, [], ◌∷◌, length, map, get_or, set, All, refl, ap, ap₂, sym, subst, ◌∙◌, arith, ℤ, pos, neg_ℤ, ◌+ℤ◌, ◌-ℤ◌, ◌*ℤ◌, ◌≤ℤ◌, ◌<ℤ◌, ◌⊎◌, inl, inr, Bool, true, false, length-set}
 use Rattle.std.proofs.lemmas.Bool.Decides.{nat_tests}
@@ -27,12 +24,6 @@ use Rattle.seq_model.specs.Systems.{row_at, no_row}
 use Rattle.seq_model.specs.declared.row.Row.{Row}
 use Rattle.row_pivots.specs.Tables.{AreRowsOf, InRange}
 use Rattle.row_pivots.specs.Turns.{entry_at, line_at, pivoted_line}
-
-abbrev pub entered_line : ℤ → List ℤ → ℕ → List ℤ
-entered_line d ys k = set (scale (neg_ℤ d) ys) k (d *ℤ d)
-
-abbrev pub pivoted_lines : ℤ → List (List ℤ) → ℕ → ℕ → List (List ℤ)
-pivoted_lines d lines r k = set (map (pivoted_line d (line_at lines r) k) lines) r (entered_line d (line_at lines r) k)
 
 -- ---- one coefficient of all vectors
 abbrev pub column : ℕ → List (List ℤ) → List ℤ
@@ -107,17 +98,6 @@ stays_number d y z ys zs cs k in_y in_z in_c leaves stays =
     let none : get_or (combined p q zs ys) k (pos 0) ≡ pos 0 = get_or-combined p q zs ys k ∙ cancels p q in
     stays_sum d p q y z (dot ys cs) (dot zs cs) _ leaves stays (settle _ _ _ _ _ (get_or cs k (pos 0)) changed none (dot-combined p q zs ys cs))
 
-enters_sum : (d p x y ys g a b : ℤ) → d *ℤ y ≡ ys → g +ℤ a *ℤ x ≡ b +ℤ (d *ℤ d) *ℤ y → a ≡ neg_ℤ d *ℤ p → b ≡ neg_ℤ d *ℤ ys → (d *ℤ p) *ℤ x ≡ g
-enters_sum d p x y ys g a b leaves sum e f =
-    same_from (add_same (mul_same d (sym leaves)) (add_same (sym sum) (add_same (ap (λ t. t *ℤ x) e) (sym f)))) (simp expand (omega (arith, ints)))
-
-pub enters_number : (d y : ℤ) (ys cs : List ℤ) (k : ℕ) → k < length ys → k < length cs → d *ℤ y ≡ dot ys cs
-    → (d *ℤ entry_at ys k) *ℤ get_or cs k (pos 0) ≡ dot (entered_line d ys k) (set cs k y)
-enters_number d y ys cs k in_y in_c leaves =
-    let long = length-scale (neg_ℤ d) ys in
-    let changed = dot-set k (scale (neg_ℤ d) ys) cs (d *ℤ d) y (pos 0) (pos 0) (omega (arith, long, in_y)) in_c in
-    enters_sum d (entry_at ys k) (get_or cs k (pos 0)) y (dot ys cs) _ _ _ leaves changed (get_or-scale (neg_ℤ d) ys k) (dot-scale (neg_ℤ d) ys cs)
-
 -- ---- lines
 abbrev pub Line : ℕ → List Row → ℤ → List ℕ → ℕ → List ℤ → Type 0
 Line vars rows d free z line = (length line ≡ suc (length free)) × (scale d (meaning vars rows z) ≡ combination line (one vars ∷ map (meaning vars rows) free))
@@ -189,25 +169,6 @@ stays_line vars rows are d free small s out in_s in_out ys leaves z in_z zs stay
         (line_each vars rows d free out ys leaves j) (line_each vars rows d free z zs stays j)
         ∙ ap (dot (pivoted_line d ys (suc s) zs)) (sym (columns_set vars rows free s out j))
 
-pub enters_line : (vars : ℕ) (rows : List Row) → AreRowsOf vars rows → (d : ℤ) (free : List ℕ) → InRange (vars + length rows) free → (s out : ℕ) → s < length free → out < vars + length rows
-    → (ys : List ℤ) → Line vars rows d free out ys → Line vars rows (d *ℤ entry_at ys (suc s)) (set free s out) (get_or free s 0) (entered_line d ys (suc s))
-enters_line vars rows are d free small s out in_s in_out ys leaves =
-    line_from vars rows are (d *ℤ entry_at ys (suc s)) (set free s out) (range_set (vars + length rows) free s out small in_out) (get_or free s 0) (small (get_or free s 0) (get_or-In free s 0 in_s)) (entered_line d ys (suc s)) long each
-  where
-    long : length (entered_line d ys (suc s)) ≡ suc (length (set free s out))
-    long = length-set (scale (neg_ℤ d) ys) (suc s) (d *ℤ d) ∙ length-scale (neg_ℤ d) ys ∙ leaves.0 ∙ ap suc (sym (length-set free s out))
-
-    each : (j : ℕ) → (d *ℤ entry_at ys (suc s)) *ℤ get_or (meaning vars rows (get_or free s 0)) j (pos 0) ≡ dot (entered_line d ys (suc s)) (column j (one vars ∷ map (meaning vars rows) (set free s out)))
-    each j =
-        let cs = column j (one vars ∷ map (meaning vars rows) free) in
-        let lc = long_columns vars rows free j in
-        let lm = length-map free (meaning vars rows) in
-        let at : get_or cs (suc s) (pos 0) ≡ get_or (meaning vars rows (get_or free s 0)) j (pos 0) =
-        get_or-map (λ v. get_or v j (pos 0)) (map (meaning vars rows) free) s (pos 0) [] (omega (arith, lm, in_s)) ∙ ap (λ v. get_or v j (pos 0)) (get_or-map (meaning vars rows) free s [] 0 in_s) in
-        ap (λ t. (d *ℤ entry_at ys (suc s)) *ℤ t) (sym at)
-        ∙ enters_number d (get_or (meaning vars rows out) j (pos 0)) ys cs (suc s) (omega (arith, leaves.0, in_s)) (omega (arith, lc, in_s)) (line_each vars rows d free out ys leaves j)
-        ∙ ap (dot (entered_line d ys (suc s))) (sym (columns_set vars rows free s out j))
-
 -- ---- all lines
 pub all_stay : (vars : ℕ) (rows : List Row) → AreRowsOf vars rows → (d : ℤ) (free : List ℕ) → InRange (vars + length rows) free → (s out : ℕ) → s < length free → out < vars + length rows
     → (ys : List ℤ) → Line vars rows d free out ys → (basic : List ℕ) (lines : List (List ℤ)) → InRange (vars + length rows) basic → Says vars rows d free basic lines
@@ -232,21 +193,7 @@ says_at vars rows d free (y ∷ basic) [] r h says = absurd says
 says_at vars rows d free (y ∷ basic) (k ∷ lines) zero h says = says.0
 says_at vars rows d free (y ∷ basic) (k ∷ lines) (suc r) h says = says_at vars rows d free basic lines r (omega (arith, h)) says.1
 
-pub says_pivoted : (vars : ℕ) (rows : List Row) → AreRowsOf vars rows → (d : ℤ) (free basic : List ℕ) (lines : List (List ℤ)) → InRange (vars + length rows) free → InRange (vars + length rows) basic
-    → (r s : ℕ) → r < length basic → s < length free → Says vars rows d free basic lines
-    → Says vars rows (d *ℤ entry_at (line_at lines r) (suc s)) (set free s (get_or basic r 0)) (set basic r (get_or free s 0)) (pivoted_lines d lines r (suc s))
-says_pivoted vars rows are d free basic lines small_free small_basic r s in_r in_s says =
-    let out = get_or basic r 0 in
-    let ys = line_at lines r in
-    let in_out = small_basic out (get_or-In basic r 0 in_r) in
-    let leaves = says_at vars rows d free basic lines r in_r says in
-    says_set vars rows (d *ℤ entry_at ys (suc s)) (set free s out) basic (map (pivoted_line d ys (suc s)) lines) r (get_or free s 0) (entered_line d ys (suc s))
-    (all_stay vars rows are d free small_free s out in_s in_out ys leaves basic lines small_basic says)
-    (enters_line vars rows are d free small_free s out in_s in_out ys leaves)
-
 -- ---- division
-abbrev pub IsTimes : ℤ → List (List ℤ) → List (List ℤ) → Type 0
-IsTimes g lines others = lines ≡ map (scale g) others
 
 scaled_number : (g d m x : ℤ) → (g ≡ pos 0 → ⊥) → (g *ℤ d) *ℤ m ≡ g *ℤ x → d *ℤ m ≡ x
 scaled_number g d m x n e = differ (cancel_factor g (d *ℤ m -ℤ x) n (spread g d m x e))

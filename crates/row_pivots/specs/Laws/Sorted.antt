@@ -7,7 +7,7 @@
 --   sorted_line, sorted_lines       the numbers in the order of a form
 --   Holds vars rows d basic free lines     a table: each variable basic or free, once; the lines say the basic ones; no number above 1 divides all
 --   Held vars rows d basic free lines      the form of the rising variables, with this denominator and these numbers
---   held                            a table is this form
+--   table_is_form                   a table is this form
 use Rattle.std.proofs.Common.{◌≡◌, ℕ, zero, suc, ◌+◌, ◌<◌, ◌≤◌, List, [], ◌∷◌, length, map, get_or, set, All, refl, ap, ap₂, sym, subst, ◌∙◌, arith, ℤ, pos, ◌+ℤ◌, ◌*ℤ◌, ◌≤ℤ◌, ◌⊎◌, inl, inr, Bool, true, false, ◌||◌, unsigned_abs, ◌↔◌}
 use Rattle.std.proofs.lemmas.Bool.Decides.{nat_tests}
 use Rattle.std.proofs.lemmas.Int.{ints}
@@ -244,8 +244,8 @@ sorted_divides vars rows d basic free lines h k a = (a.0, All-from_in (λ line. 
             (All-in (λ x. k ∣ unsigned_abs x) (sorted_line (vars + length rows) basic free (c ∷ es)) (entry_of y.0 free es) (whole (c ∷ es) m)
             (inr (In-map (λ y. entry_of y free es) (free_of (vars + length rows) basic) y.0 (free_member (vars + length rows) basic y.0 (h.small_free y.0 in_free) (h.apart y.0 in_free)))))
 
-pub held : (vars : ℕ) (rows : List Row) (d : ℤ) (basic free : List ℕ) (lines : List (List ℤ)) → Holds vars rows d basic free lines → Held vars rows d basic free lines
-held vars rows d basic free lines h = record {
+pub table_is_form : (vars : ℕ) (rows : List Row) (d : ℤ) (basic free : List ℕ) (lines : List (List ℤ)) → Holds vars rows d basic free lines → Held vars rows d basic free lines
+table_is_form vars rows d basic free lines h = record {
   form = record {
     d = d;
     lines = sorted_lines (vars + length rows) basic free lines;

@@ -15,7 +15,7 @@ use Rattle.row_laws.specs.Laws.OneForm.{one_form}
 use Rattle.row_laws.specs.Laws.Pivots.{below, free_climbs}
 use Rattle.row_pivots.specs.Laws.Bland.{not_basic}
 use Rattle.row_pivots.specs.Laws.Pivoting.{Line}
-use Rattle.row_pivots.specs.Laws.Sorted.{held, entry_is, rising_members, free_member, says_or, has_of}
+use Rattle.row_pivots.specs.Laws.Sorted.{table_is_form, entry_is, rising_members, free_member, says_or, has_of}
 use Rattle.row_pivots.specs.Tables.{Fresh, Holds, Held, rising, sorted_line, sorted_lines, line_or, entry_of}
 use Rattle.seq_model.specs.Dictionaries.{free_of, Form, Has, WideAt}
 use Rattle.seq_model.specs.Walks.{constant, entries}
@@ -94,7 +94,7 @@ wide_row vars rows d basic free lines h z i = (there, back)
     raw = line_or z basic lines
 
     F : Held vars rows d basic free lines
-    F = held vars rows d basic free lines h
+    F = table_is_form vars rows d basic free lines h
 
     long : length (line_or z basic lines) ≡ suc (length free)
     long = (says_or vars rows d free basic lines h.says z i).0

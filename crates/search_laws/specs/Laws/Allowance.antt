@@ -8,7 +8,7 @@
 --                             contacts, of an ordered one the contacts of its order that aren't opened
 --   allowance job s path      2 ^ u * s ^ k for u unordered pairs, and k the sum of their room
 --   Fair path                 no pair is ordered both ways
-use Rattle.std.proofs.Common.{◌≡◌, ℕ, ◌+◌, ◌*◌, ◌^◌, ◌≤◌, Bool, true, false, cond, not, eqb, ◌&&◌, ◌||◌, List, [], ◌∷◌, length, max, refl, sym, ap, subst, ◌∙◌, arith, inl, inr, ◌⊎◌}
+use Rattle.std.proofs.Common.{◌≡◌, ℕ, ◌+◌, ◌*◌, ◌^◌, ◌≤◌, Bool, true, false, cond, not, eqb, ◌&&◌, ◌||◌, List, [], ◌∷◌, length, max, refl, sym, ap, subst, ◌∙◌, arith}
 use Rattle.std.specs.List.{sum_by, count_by, range_with_len}
 use Rattle.search_laws.specs.Laws.Sums.{sum_le, sum_less, by_numbers}
 use Rattle.plan_laws.specs.Laws.OnPath.{never}
@@ -53,9 +53,6 @@ abbrev pub Fair : List Choice → Type 0
 Fair path = (i j : ℕ) → is_before path i j ≡ true → is_before path j i ≡ true → ⊥
 
 -- ---- tests
-pub either_way : (b : Bool) → (b ≡ true) ⊎ (b ≡ false)
-either_way true = inl refl
-either_way false = inr refl
 
 -- ---- what is on a path
 -- one more choice at the end
@@ -88,8 +85,6 @@ opened_also_side (Choices.Side x o ∷ path) d dir c = ap (λ t. same_contact x 
 opened_also_side (Choices.Before x y ∷ path) d dir c = opened_also_side path d dir c
 
 -- ---- what may still be opened
-abbrev lesser : Job → List Choice → List Choice → Contact → Type 0
-lesser job more path c = still job more c ≤ still job path c
 
 still_fewer : (job : Job) (path more : List Choice) (c : Contact) → (is_opened path c ≡ true → is_opened more c ≡ true) → still job more c ≤ still job path c
 unfolding still

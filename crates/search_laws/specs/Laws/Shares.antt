@@ -11,7 +11,7 @@ use Rattle.std.proofs.lemmas.List.Sums.{sum_by-cons}
 use Rattle.std.proofs.lemmas.List.Elements.{All-nil, All-cons}
 use Rattle.std.specs.List.{sum_by}
 use Rattle.search_laws.specs.Laws.Allowance.{is_opened, same_contact, unopened, unopened_fewer, unopened_less, unopened_most, pair_open, pair_room, allowance, Fair, before_also_order, before_also_side, opened_also_order, opened_also_side}
-use Rattle.plan_laws.specs.Laws.OnPath.{before_is, is_on, or_cases, and_cases, never, same_pair}
+use Rattle.plan_laws.specs.Laws.OnPath.{before_is, is_on, or_cases, never, same_pair}
 use Rattle.plan_laws.specs.Looking.{is_before}
 use Rattle.search_laws.specs.Searches.{IsEarnedTree}
 use Rattle.search_laws.specs.Laws.SideCounts.{three_at_contact}
@@ -33,7 +33,7 @@ use Rattle.seq_model.specs.declared.tree.Contact.{Contact}
 use Rattle.seq_model.specs.declared.tree.Dir.{Dir}
 use Rattle.seq_model.specs.declared.tree.Node.{Node}
 use Rattle.seq_model.specs.declared.tree.Node.TheVariants as Nodes
-use Rattle.std.proofs.lemmas.Bool.{eqb-true, eq-eqb, cases_lt}
+use Rattle.std.proofs.lemmas.Bool.{eqb-true, eq-eqb, cases_lt, and_parts}
 
 pub record Longer (path more : List Choice) : Type 0 where
   pub before : (i j : ℕ) → is_before path i j ≡ true → is_before more i j ≡ true
@@ -81,7 +81,7 @@ order_longer path a b fair apart free = record {
 }
   where
     at : (i j : ℕ) → (eqb a i && eqb b j) ≡ true → (a ≡ i) × (b ≡ j)
-    at i j e = let t = and_cases (eqb a i) (eqb b j) e in (eqb-true a i t.0, eqb-true b j t.1)
+    at i j e = let t = and_parts (eqb a i) (eqb b j) e in (eqb-true a i t.0, eqb-true b j t.1)
 
     back : (i j : ℕ) → (a ≡ i) × (b ≡ j) → is_before path j i ≡ true → ⊥
     back i j e h = never (is_before path b a) (ap (λ x. is_before path x a) e.1 ∙ (ap (λ x. is_before path j x) e.0 ∙ h)) free
@@ -254,10 +254,10 @@ opened_is (Choices.Side d dir ∷ path) c h = by (or_cases (same_contact d c) (i
   where
     same : same_contact d c ≡ true → d ≡ c
     same e =
-        let a = and_cases (eqb d.i c.i && eqb d.zi c.zi) (eqb d.part c.part && (eqb d.zj c.zj && eqb d.j c.j)) e in
-        let b = and_cases (eqb d.i c.i) (eqb d.zi c.zi) a.0 in
-        let f = and_cases (eqb d.part c.part) (eqb d.zj c.zj && eqb d.j c.j) a.1 in
-        let g = and_cases (eqb d.zj c.zj) (eqb d.j c.j) f.1 in
+        let a = and_parts (eqb d.i c.i && eqb d.zi c.zi) (eqb d.part c.part && (eqb d.zj c.zj && eqb d.j c.j)) e in
+        let b = and_parts (eqb d.i c.i) (eqb d.zi c.zi) a.0 in
+        let f = and_parts (eqb d.part c.part) (eqb d.zj c.zj && eqb d.j c.j) a.1 in
+        let g = and_parts (eqb d.zj c.zj) (eqb d.j c.j) f.1 in
         ap (λ x. record d { i = x }) (eqb-true d.i c.i b.0) ∙ (ap (λ x. record d { i = c.i; zi = x }) (eqb-true d.zi c.zi b.1) ∙ (ap (λ x. record d { i = c.i; zi = c.zi; part = x }) (eqb-true d.part c.part f.0)
         ∙ (ap (λ x. record d { i = c.i; zi = c.zi; part = c.part; zj = x }) (eqb-true d.zj c.zj g.0) ∙ ap (λ x. record c { j = x }) (eqb-true d.j c.j g.1))))
 

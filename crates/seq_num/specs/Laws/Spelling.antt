@@ -10,6 +10,7 @@ use Rattle.std.proofs.lemmas.Slice.Eq.{bytes_eq-Decides}
 use Rattle.std.proofs.lemmas.Bool.Decides.{nat_tests}
 use Rattle.std.specs.Str.{bytes_eq}
 use Rattle.std.specs.Str.Parse.{signed_digits_value}
+use Rattle.std.proofs.lemmas.Bool.{and_parts}
 use Rattle.seq_num.specs.Spelling.{spelling, Spells, number_of}
 use Rattle.seq_num.specs.Laws.Digits.{each_digit, not_empty, decimal_value}
 
@@ -17,10 +18,6 @@ use Rattle.seq_num.specs.Laws.Digits.{each_digit, not_empty, decimal_value}
 pub guard_some : {A : Type 0} (b : Bool) (x y : A) → cond b (Some x) None ≡ Some y → (b ≡ true) × (x ≡ y)
 guard_some true x y e = (refl, cc)
 guard_some false x y e = absurd cc
-
-pub and_true : (a b : Bool) → (a && b) ≡ true → (a ≡ true) × (b ≡ true)
-and_true true b e = (refl, e)
-and_true false b e = absurd cc
 
 -- the spelling of a number has its value
 pub spelling_value : (n : ℤ) → unsigned_abs n < 2 ^ 100 → signed_digits_value 10 (spelling n) ≡ n
@@ -37,7 +34,7 @@ unfolding number_of
 number_spells bytes n e =
     let v = signed_digits_value 10 bytes in
     let g = guard_some (bytes_eq bytes (spelling v) && nat_lt (unsigned_abs v) (2 ^ 100)) v n e in
-    let tests = and_true (bytes_eq bytes (spelling v)) (nat_lt (unsigned_abs v) (2 ^ 100)) g.0 in
+    let tests = and_parts (bytes_eq bytes (spelling v)) (nat_lt (unsigned_abs v) (2 ^ 100)) g.0 in
     let small : unsigned_abs v < 2 ^ 100 = grind (arith, nat_tests, tests.1) in
     subst (λ (m : ℤ). Spells bytes m) g.1 (record { small = small; is = (bytes_eq-Decides bytes (spelling v)).0 tests.0 })
 

@@ -3,14 +3,14 @@
 --   mapped_some      what an option that a call gave says of the definition's, seen through f
 --   step_some        what a step of a chain of readers gave, where the chain gave something
 --   literal_takes    the bytes begin with the text
---   literal_again    the text is taken from its front; literal_alone, where nothing follows
+--   literal_again    the text is taken from its front
 --   whole_takes      the bytes begin with the spelling of the number, and no digit follows it
 --   whole_again      a number's spelling is taken from its front, where no digit follows it
 --   literal_exact, whole_exact      both ways in one
 --   literal_one, whole_one          what stands at the front determines its value and the bytes after it
 use Rattle.std.specs.Prelude.{◌≡◌, ◌↔◌, ℕ, ◌+◌, ◌<◌, ◌^◌, ℤ, pos, negsuc, suc, unsigned_abs, List, [], ◌∷◌, ◌++◌, length, take, drop, Bool, true, false, Option, Some, None, option_and_then, decimal, refl}
 use Rattle.std.proofs.Common.{sym, ap, ◌∙◌, arith, cond, eqb, get_or, add-one}
-use Rattle.std.proofs.lemmas.List.{take-append-drop, take_at, drop_at, append-nil, get_or_append_left}
+use Rattle.std.proofs.lemmas.List.{take-append-drop, take_at, drop_at, get_or_append_left}
 use Rattle.std.proofs.lemmas.Slice.Eq.{bytes_eq-Decides}
 use Rattle.std.proofs.lemmas.Bool.Decides.{nat_tests}
 use Rattle.std.proofs.lemmas.Grind.{common_steps}
@@ -45,10 +45,6 @@ literal_again text rest =
     let d : drop (length text) (text ++ rest) ≡ rest = drop_at text rest (length text) refl in
     let b : bytes_eq (take (length text) (text ++ rest)) text ≡ true = (bytes_eq-Decides (take (length text) (text ++ rest)) text).1 t in
     rw b (ap Some d)
-
--- the text alone
-pub literal_alone : (text : List ℕ) → literal_at text text ≡ Some []
-literal_alone text = ap (literal_at text) (sym (append-nil text)) ∙ literal_again text []
 
 digit_is_ascii : (c : ℕ) → digit_value c < 10 → is_ascii_digit c ≡ true
 digit_is_ascii c h = grind (arith, common_steps)

@@ -7,6 +7,7 @@ use Rattle.std.proofs.Common.{◌≡◌, ℕ, zero, suc, ◌<◌, ◌≤◌, tru
 use Rattle.std.proofs.lemmas.Bool.Decides.{nat_tests}
 use Rattle.std.specs.Char.{to_ascii_lowercase}
 use Rattle.std.specs.List.{list_all}
+use Rattle.std.proofs.lemmas.Bool.{and_parts}
 use Rattle.seq_model.specs.declared.mesh.Facet.{Facet}
 use Rattle.seq_trial.specs.Draws.{later}
 use Rattle.seq_trial.specs.Towers.{mesh_text, name_of, tower_at, tower_text}
@@ -21,12 +22,12 @@ use Rattle.trial_laws.specs.Laws.Layers.{few_higher, tower_solid}
 use Rattle.trial_laws.specs.Laws.Numbers.{is_plain, spelled_in_line, spelled_plain, spelled_short}
 use Rattle.trial_laws.specs.Laws.Solids.{found_of, plain_both}
 use Rattle.trial_laws.specs.Made.{IsMadeMesh, facets_at}
-use Rattle.trial_laws.specs.Laws.Words.{and_true, first_at_end, keyword_at, passes_none, rest_at, word_at}
+use Rattle.trial_laws.specs.Laws.Words.{first_at_end, keyword_at, passes_none, rest_at, word_at}
 
 plain_at : (bytes : List ℕ) (k : ℕ) → list_all is_plain bytes ≡ true → k < length bytes → 1 ≤ get_or bytes k 0
 plain_at [] k plain within = absurd (omega (arith, within))
-plain_at (c ∷ cs) zero plain within = (let first = (and_true (nat_le 1 c) (list_all is_plain cs) plain).0 in grind (arith, nat_tests))
-plain_at (c ∷ cs) (suc k) plain within = plain_at cs k (and_true (nat_le 1 c) (list_all is_plain cs) plain).1 (omega (arith, within))
+plain_at (c ∷ cs) zero plain within = (let first = (and_parts (nat_le 1 c) (list_all is_plain cs) plain).0 in grind (arith, nat_tests))
+plain_at (c ∷ cs) (suc k) plain within = plain_at cs k (and_parts (nat_le 1 c) (list_all is_plain cs) plain).1 (omega (arith, within))
 
 not_binary : (bytes : List ℕ) → list_all is_plain bytes ≡ true → length bytes ≤ 100_000 → ¬ IsBinary bytes
 not_binary bytes plain short b =

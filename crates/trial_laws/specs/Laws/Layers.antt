@@ -5,13 +5,13 @@
 --   tower_solid            and that of a tower of twelve for each layer
 use Rattle.std.proofs.Common.{◌≡◌, ℕ, zero, suc, ◌+◌, ◌*◌, ◌-◌, ◌<◌, ◌≤◌, Bool, true, false, nat_le, cond, ◌++◌, refl, sym, subst, arith}
 use Rattle.std.proofs.lemmas.Bool.Decides.{nat_tests}
+use Rattle.std.proofs.lemmas.Bool.{and_parts}
 use Rattle.seq_trial.specs.Draws.{drawn, next_state}
 use Rattle.seq_trial.specs.Towers.{first, fits, floor_text, fourth, higher_text, layer_text, narrowed, roof_text, second, third, tower_at, tower_text, wall_text, walls_text}
 use Rattle.seq_trial.specs.declared.facets.Vertex.{Vertex}
 use Rattle.seq_trial.specs.declared.tower.Size.{Size}
 use Rattle.trial_laws.specs.Laws.Facets.{IsSmall}
 use Rattle.trial_laws.specs.Laws.Solids.{Apart, in_x, in_y, in_z, IsSolidText, solid_both, solid_facet, solid_none}
-use Rattle.trial_laws.specs.Laws.Words.{and_true}
 use Rattle.trial_laws.specs.Made.{facets_at}
 
 pub record Fits (size : Size) (x : ℕ) : Type 0 where
@@ -92,7 +92,7 @@ module _ (size : Size) (x : ℕ) (f : Fits size x) where
 -- a layer drawn in further fits too
 narrowed_by : (size : Size) (x v : ℕ) (b : Bool) → b ≡ fits size (x + v) → Fits size x → Fits size (cond b (x + v) x)
 narrowed_by size x v true e f =
-    let t = and_true (nat_le (2 * (x + v) + 4) size.width) (nat_le (2 * (x + v) + 4) size.depth) (sym e) in
+    let t = and_parts (nat_le (2 * (x + v) + 4) size.width) (nat_le (2 * (x + v) + 4) size.depth) (sym e) in
     let wide : 2 * (x + v) + 4 ≤ size.width = (let h = t.0 in grind (arith, nat_tests)) in
     let deep : 2 * (x + v) + 4 ≤ size.depth = (let h = t.1 in grind (arith, nat_tests)) in
     record { wide = wide; deep = deep; width = f.width; depth = f.depth }

@@ -5,7 +5,7 @@
 --   keyword_at, any_word_at     so it is read as the keyword, or as any word
 --   rest_at                     a line that is ended by a line feed is read to behind it
 use Rattle.std.proofs.Common.{◌≡◌, ℕ, zero, suc, ◌+◌, ◌-◌, ◌<◌, ◌≤◌, ◌⊎◌, inl, inr, Bool, true, false, not, ◌&&◌, List, [], ◌∷◌, ◌++◌, length, get_or, take, drop, refl, ap, ◌∙◌, subst, arith, map, min, Ok}
-use Rattle.std.proofs.lemmas.Bool.{cases_lt}
+use Rattle.std.proofs.lemmas.Bool.{cases_lt, and_parts}
 use Rattle.std.proofs.Math.Seq.{take-append_seam}
 use Rattle.std.specs.Char.{to_ascii_lowercase}
 use Rattle.std.specs.List.{list_all}
@@ -29,10 +29,6 @@ front (x ∷ xs) (suc at) d rest e =
     let f = front xs at d rest e in
     record { within = omega (arith, f.within); is = f.is; behind = f.behind }
 
-pub and_true : (a b : Bool) → (a && b) ≡ true → (a ≡ true) × (b ≡ true)
-and_true true b e = (refl, e)
-and_true false b e = absurd cc
-
 not_true : (a : Bool) → not a ≡ true → a ≡ false
 not_true true e = absurd cc
 not_true false e = refl
@@ -55,7 +51,7 @@ first_behind p bytes at [] c tail e none here =
     subst (IsFirst p bytes at) (omega arith) is
 first_behind p bytes at (d ∷ run) c tail e none here =
     let f = front bytes at d (run ++ (c ∷ tail)) e in
-    let n = and_true (not (p d)) (passes_none p run) none in
+    let n = and_parts (not (p d)) (passes_none p run) none in
     let more = first_behind p bytes (suc at) run c tail f.behind n.1 here in
     let first : p (get_or bytes at 0) ≡ false = ap p f.is ∙ not_true (p d) n.0 in
     let is : IsFirst p bytes at (suc at + length run) = record {
@@ -88,7 +84,7 @@ word_at bytes at sp (x ∷ w) c tail e white black some ended =
     let from = at + length sp in
     let all = (x ∷ w) ++ (c ∷ tail) in
     let there : drop from bytes ≡ all = behind_run bytes at sp all e in
-    let first = first_behind is_black bytes at sp x (w ++ (c ∷ tail)) e white (and_true (not (is_white x)) (passes_none is_white w) black).0 in
+    let first = first_behind is_black bytes at sp x (w ++ (c ∷ tail)) e white (and_parts (not (is_white x)) (passes_none is_white w) black).0 in
     let to = from + length (x ∷ w) in
     let last = first_behind is_white bytes from (x ∷ w) c tail there black ended in
     let size : to - from ≡ length (x ∷ w) = omega arith in

@@ -1,8 +1,8 @@
-use Rattle.examples_model.proofs.CycleLaws.{two, one_way, other_way, three, backwards, one_object, no_object}
+use Rattle.examples_model.proofs.CycleLaws.{two_cubes_refuted, one_way, other_way, three_cubes_refuted, backwards, one_object, no_object}
 use Rattle.examples_model.proofs.trees.cycles_of_a_path.Goals as goal
 
 pub returns-clause-two : goal.returns-clause-two
-returns-clause-two c = two
+returns-clause-two c = two_cubes_refuted
 
 pub returns-clause-one_way : goal.returns-clause-one_way
 returns-clause-one_way c = one_way
@@ -11,7 +11,7 @@ pub returns-clause-other_way : goal.returns-clause-other_way
 returns-clause-other_way c = other_way
 
 pub returns-clause-three : goal.returns-clause-three
-returns-clause-three c = three
+returns-clause-three c = three_cubes_refuted
 
 pub returns-clause-backwards : goal.returns-clause-backwards
 returns-clause-backwards c = backwards
