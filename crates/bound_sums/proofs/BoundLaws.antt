@@ -1,10 +1,10 @@
 -- Steps of the summing of a bound's rows, and what its end says.
-use Rattle.std.proofs.Common.{◌≡◌, ℕ, ◌+◌, ◌*◌, ◌<◌, ◌≤◌, ◌^◌, ℤ, pos, ◌+ℤ◌, ◌*ℤ◌, ◌≤ℤ◌, ◌<ℤ◌, List, [], ◌∷◌, ◌++◌, ◌⊎◌, inl, inr, length, get_or, drop, take, Bool, true, false, refl, sym, ap, subst, ◌∙◌, arith, All, ◌↔◌, unsigned_abs, FitsSigned, to_z, of_z}
-use Rattle.std.proofs.lemmas.Int.{ints, to_z-of_z}
+use Rattle.std.proofs.Common.{◌≡◌, ℕ, ◌+◌, ◌<◌, ◌≤◌, ℤ, pos, ◌+ℤ◌, ◌*ℤ◌, ◌≤ℤ◌, ◌<ℤ◌, List, [], length, get_or, drop, take, refl, sym, ap, subst, ◌∙◌, arith, All}
+use Rattle.std.proofs.lemmas.Int.{ints}
 use Rattle.std.proofs.lemmas.List.{drop_more, drop_all, take_more, take_all}
 use Rattle.std.proofs.lemmas.List.Elements.{All-push}
 use Rattle.seq_model.specs.declared.row.Row.{Row}
-use Rattle.seq_model.specs.Systems.{row_at, IsTaken, sum_constant, sum_coefficients, Contradiction}
+use Rattle.seq_model.specs.Systems.{row_at, IsTaken, sum_constant, Contradiction}
 use Rattle.seq_model.specs.declared.tree.Mult.{Mult}
 use Rattle.bound_sums.specs.Bounding.{IsLine, IsCounted, AreTaken, AreLow}
 use Rattle.bound_sums.proofs.Contradicts.{AreSums, one_summed, all_summed}

@@ -1,11 +1,10 @@
 -- The sums of the rows that a bound takes.
-use Rattle.std.proofs.Common.{◌≡◌, ℕ, zero, suc, ◌+◌, ◌*◌, ◌<◌, ◌≤◌, ◌^◌, ℤ, pos, neg_ℤ, ◌+ℤ◌, ◌*ℤ◌, ◌≤ℤ◌, List, [], ◌∷◌, length, get_or, drop, refl, sym, ap, subst, ◌∙◌, arith, All, ◌↔◌, ◌⊎◌, inl, inr, Bool, true, false, ltb}
+use Rattle.std.proofs.Common.{◌≡◌, ℕ, ℤ, pos, ◌+ℤ◌, ◌*ℤ◌, ◌≤ℤ◌, List, [], ◌∷◌, length, refl, sym, ap, subst, ◌∙◌, arith, All, ◌↔◌, Bool, true, false, ltb}
 use Rattle.std.proofs.lemmas.Int.{ints}
 use Rattle.std.proofs.lemmas.List.{get_or_default}
 use Rattle.std.proofs.Math.ListN.{get_or-eq_default}
 use Rattle.std.proofs.lemmas.Bool.Decides.{nat_tests}
-use Rattle.integer_laws.specs.Laws.Ring.{expand}
-use Rattle.integer_laws.specs.Vectors.{plus, scale}
+use Rattle.integer_laws.specs.Vectors.{scale}
 use Rattle.integer_laws.specs.Laws.Vectors.{get_or-plus, get_or-scale}
 use Rattle.seq_model.specs.declared.row.Row.{Row}
 use Rattle.seq_model.specs.Systems.{row_at, sum_constant, sum_coefficients}

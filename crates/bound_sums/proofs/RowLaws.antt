@@ -1,9 +1,7 @@
 -- The rows of a system by their numbers.
-use Rattle.std.proofs.Common.{◌≡◌, ℕ, zero, suc, ◌+◌, ◌-◌, ◌<◌, ◌≤◌, ℤ, List, [], ◌∷◌, ◌++◌, length, map, get_or, All, refl, sym, ap, subst, ◌∙◌, arith, length-append}
-use Rattle.std.proofs.lemmas.List.{get_or_append_left, get_or-append-add, length-map, get_or_default}
-use Rattle.std.proofs.lemmas.List.Elements.{All-get_or}
+use Rattle.std.proofs.Common.{◌≡◌, ℕ, zero, suc, ◌+◌, ◌<◌, ◌≤◌, ℤ, List, [], ◌∷◌, length, map, get_or, All, refl, sym, ap, subst, ◌∙◌, arith, length-append}
+use Rattle.std.proofs.lemmas.List.{get_or_append_left, get_or-append-add, length-map}
 use Rattle.seq_model.specs.Systems.{no_row, row_at}
-use Rattle.seq_model.specs.declared.row.Row.{Row}
 use Rattle.bound_sums.specs.Bounding.{IsLine}
 use Rattle.bound_sums.specs.Sparse.{IsShortRoom, IsShortSide, full_row, room_rows, rows_of}
 use Rattle.bound_sums.specs.declared.rows.Line.{Line}

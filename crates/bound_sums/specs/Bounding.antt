@@ -4,7 +4,7 @@
 --   IsLineOf rows width r o     o is row number r, and None where there is none
 --   IsCounted m                 how often a row is taken is at least 0, and below 2^62
 --   IsFirstBreach rows mults o  None where the rows contradict each other, each taken so often; else the first of the rules that is broken
-use Rattle.std.specs.Prelude.{◌≡◌, ℕ, ◌≤◌, ◌<◌, ◌^◌, ℤ, pos, ◌≤ℤ◌, ◌<ℤ◌, List, length, All, Option, Some, None, unsigned_abs}
+use Rattle.std.specs.Prelude.{◌≡◌, ℕ, ◌≤◌, ◌<◌, ◌^◌, pos, ◌≤ℤ◌, ◌<ℤ◌, List, length, All, Option, Some, None, unsigned_abs}
 use Rattle.seq_model.specs.Systems.{row_at, IsTaken, sum_constant, sum_coefficients, Contradiction}
 use Rattle.seq_model.specs.declared.row.Row.{Row}
 use Rattle.seq_model.specs.declared.tree.Mult.{Mult}

@@ -1,7 +1,7 @@
 -- Trees that are whole, by the counts of their children alone.
 --
 --   Counts todo nodes left   read from the left, the nodes stand for `todo` that are to come, and `left` are then still to come
-use Rattle.std.proofs.Common.{◌≡◌, ℕ, zero, suc, ◌+◌, List, [], ◌∷◌, ◌++◌, length, replicate, refl, sym, ap, subst, ◌∙◌, length-append}
+use Rattle.std.proofs.Common.{◌≡◌, ℕ, zero, suc, ◌+◌, List, [], ◌∷◌, ◌++◌, length, replicate, ap, subst, ◌∙◌, length-append}
 use Rattle.std.proofs.lemmas.List.{length-replicate}
 use Rattle.seq_model.specs.Trees.{arity, Fills}
 use Rattle.seq_model.specs.declared.tree.Node.{Node}

@@ -1,7 +1,7 @@
 -- Sides of a path, counted and with their rows.
-use Rattle.std.proofs.Common.{◌≡◌, ℕ, zero, suc, ◌+◌, ◌-◌, ◌≤◌, ◌<◌, List, [], ◌∷◌, ◌++◌, ◌⊎◌, inl, inr, length, get_or, take, Bool, true, false, ltb, refl, sym, ap, subst, ◌∙◌, arith, length-append, append-nil}
+use Rattle.std.proofs.Common.{◌≡◌, ℕ, zero, suc, ◌+◌, ◌≤◌, ◌<◌, List, [], ◌∷◌, ◌++◌, length, get_or, take, Bool, true, false, ltb, refl, sym, ap, ◌∙◌, arith, length-append}
 use Rattle.std.proofs.lemmas.Bool.Decides.{nat_tests}
-use Rattle.std.proofs.lemmas.List.{length-take, length-take-le, get_or-take, get_or_append_left, take_all, take-take, take-append-le}
+use Rattle.std.proofs.lemmas.List.{length-take, get_or-take, get_or_append_left, take_all, take-take, take-append-le}
 use Rattle.std.proofs.Common.{min}
 use Rattle.difference_polygon.specs.declared.rows.SideRow.{SideRow}
 use Rattle.seq_model.specs.declared.job.Job.{Job}

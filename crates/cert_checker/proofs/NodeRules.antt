@@ -1,5 +1,5 @@
 -- The rules of a bound, as the sums find them; and what the grammar says of its multipliers.
-use Rattle.std.proofs.Common.{◌≡◌, ℕ, ◌+◌, ◌*◌, ◌≤◌, ◌<◌, ◌^◌, ℤ, pos, ◌≤ℤ◌, ◌<ℤ◌, List, [], ◌∷◌, ◌⊎◌, inl, inr, length, map, get_or, All, Option, Some, None, unsigned_abs, refl, sym, ap, subst, ◌∙◌, arith}
+use Rattle.std.proofs.Common.{◌≡◌, ℕ, ◌*◌, ℤ, pos, ◌≤ℤ◌, List, inl, inr, length, map, get_or, All, Option, Some, None, refl, sym, ap, subst, ◌∙◌, arith}
 use Rattle.std.proofs.Math.Path.{subst₂}
 use Rattle.std.proofs.lemmas.Int.{ints}
 use Rattle.std.proofs.lemmas.List.{length-map, get_or-map}
@@ -10,7 +10,6 @@ use Rattle.bound_sums.specs.declared.breaches.Breach.TheVariants as breaches
 use Rattle.cert_text.specs.TreeText.{IsSpelt, IsSpeltMult, pair_of}
 use Rattle.cert_text.specs.declared.pairs.Pair.{Pair}
 use Rattle.difference_polygon.specs.declared.rows.SideRow.{SideRow}
-use Rattle.seq_model.specs.Contacts.{IsContact}
 use Rattle.seq_model.specs.Systems.{system}
 use Rattle.seq_model.specs.declared.job.Job.{Job}
 use Rattle.seq_model.specs.declared.row.Row.{Row}

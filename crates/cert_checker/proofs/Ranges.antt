@@ -1,9 +1,8 @@
 -- What taking the next path and opening a split do to the paths that are to come.
-use Rattle.std.proofs.Common.{◌≡◌, ℕ, zero, suc, ◌+◌, ◌-◌, ◌≤◌, ◌<◌, List, [], ◌∷◌, ◌++◌, length, reverse, map, take, drop, get_or, refl, sym, ap, subst, ◌∙◌, arith, length-append}
+use Rattle.std.proofs.Common.{◌≡◌, ℕ, suc, ◌+◌, ◌-◌, ◌≤◌, ◌<◌, List, [], ◌∷◌, ◌++◌, length, reverse, take, drop, get_or, refl, sym, ap, subst, ◌∙◌, arith, length-append}
 use Rattle.std.proofs.lemmas.List.{take-append-le, take-take, take_all, length-take-le, drop_more, reverse-append}
-use Rattle.seq_model.specs.Trees.{also}
 use Rattle.seq_model.specs.declared.tree.Choice.{Choice}
-use Rattle.cert_checker.specs.Waits.{also_each, coming, waiting, AreNested}
+use Rattle.cert_checker.specs.Waits.{also_each, waiting, AreNested}
 use Rattle.cert_checker.specs.Kept.{range_of}
 use Rattle.cert_checker.specs.declared.frames.Frame.{Frame}
 

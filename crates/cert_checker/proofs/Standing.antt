@@ -1,5 +1,5 @@
 -- Where the walk stands, and what each of its turns does.
-use Rattle.std.proofs.Common.{◌≡◌, ℕ, ◌+◌, ◌≤◌, ◌<◌, List, [], ◌∷◌, ◌++◌, ◌⊎◌, inl, inr, length, reverse, take, get_or, true, false, Bool, refl, sym, ap, subst, ◌∙◌, arith, add-one}
+use Rattle.std.proofs.Common.{◌≡◌, ℕ, ◌+◌, ◌≤◌, ◌<◌, List, [], ◌∷◌, ◌++◌, ◌⊎◌, inl, inr, length, reverse, take, refl, sym, ap, subst, ◌∙◌, arith}
 use Rattle.std.proofs.lemmas.List.{reverse-append}
 use Rattle.std.proofs.Math.Nat.{eq-or-lt_of_le}
 use Rattle.seq_model.specs.Trees.{Reads, Refutes}
@@ -7,7 +7,7 @@ use Rattle.seq_model.specs.declared.job.Job.{Job}
 use Rattle.seq_model.specs.declared.tree.Choice.{Choice}
 use Rattle.seq_model.specs.declared.tree.Node.{Node}
 use Rattle.cert_checker.specs.Judged.{IsFineBy}
-use Rattle.cert_checker.specs.Kept.{AreChoices, node_at, range_of}
+use Rattle.cert_checker.specs.Kept.{node_at, range_of}
 use Rattle.cert_checker.proofs.Ranges.{opened, range_empty}
 use Rattle.cert_checker.specs.Rules.{Breaks, Good, IsFirstBroken}
 use Rattle.cert_checker.specs.Waits.{also_each, waiting, AreNested}

@@ -1,5 +1,5 @@
 -- What a cut and one choice more leave of a trail.
-use Rattle.std.proofs.Common.{◌≡◌, ℕ, zero, suc, ◌+◌, ◌≤◌, ◌<◌, List, [], ◌∷◌, ◌++◌, length, get_or, take, refl, sym, ap, subst, ◌∙◌, arith, length-append}
+use Rattle.std.proofs.Common.{◌≡◌, ℕ, ◌≤◌, ◌<◌, List, [], ◌∷◌, ◌++◌, length, get_or, take, sym, ap, subst, ◌∙◌, arith, length-append}
 use Rattle.std.proofs.Math.Path.{subst₂}
 use Rattle.std.proofs.lemmas.List.{get_or_default, length-take-le, take_all}
 use Rattle.difference_polygon.specs.declared.rows.SideRow.{SideRow}
@@ -10,7 +10,7 @@ use Rattle.seq_model.specs.declared.tree.Contact.{Contact}
 use Rattle.seq_model.specs.declared.tree.Dir.{Dir}
 use Rattle.cert_checker.proofs.Marks.{side_count-take-le, side_count-order, side_count-side, rows_cut, rows_order, rows_side, marks_cut, marks_more}
 use Rattle.cert_checker.proofs.Stamps.{cut_back, side_stamps}
-use Rattle.cert_checker.specs.Trails.{AreMarked, AreRowsOf, HasRows, IsFit, IsRowFor, IsStamped, side_count}
+use Rattle.cert_checker.specs.Trails.{AreMarked, AreRowsOf, IsFit, IsRowFor, IsStamped, side_count}
 use Rattle.cert_checker.specs.declared.trail.Trail.{Trail}
 
 -- ---- a cut

@@ -1,12 +1,9 @@
 -- No tree that refutes has a first broken node, and there is one first broken node at most.
-use Rattle.std.proofs.Common.{◌≡◌, ℕ, zero, suc, ◌+◌, ◌<◌, ◌≤◌, List, [], ◌∷◌, ◌++◌, ◌⊎◌, inl, inr, length, map, refl, sym, ap, subst, ◌∙◌, arith, ◌↔◌}
-use Rattle.seq_model.specs.Contacts.{points_of}
-use Rattle.seq_model.specs.Systems.{system, IsTaken, Contradiction}
-use Rattle.seq_model.specs.Trees.{also, AreChildren, Reads, Refutes}
+use Rattle.std.proofs.Common.{◌≡◌, ℕ, suc, List, [], ◌∷◌, ◌++◌, inl, inr, length, refl, sym, ap, subst, ◌∙◌, ◌↔◌}
+use Rattle.seq_model.specs.Trees.{AreChildren, Reads, Refutes}
 use Rattle.seq_model.specs.declared.job.Job.{Job}
 use Rattle.seq_model.specs.declared.tree.Choice.{Choice}
 use Rattle.seq_model.specs.declared.tree.Choice.TheVariants as Choices
-use Rattle.seq_model.specs.declared.tree.Dir.{Dir}
 use Rattle.seq_model.specs.declared.tree.Node.{Node}
 use Rattle.seq_model.specs.declared.tree.Node.TheVariants as Nodes
 use Rattle.model_laws.specs.Laws.OnePath.{children_same}

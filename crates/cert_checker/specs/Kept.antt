@@ -13,7 +13,7 @@
 --   Grows old new                 a table's choices went on
 --   AreRoomsOf job kept           the rooms are those that its extent leaves
 --   IsKept job nodes kept         they are, the choices have their rows, and the ranges are those of the nodes
-use Rattle.std.specs.Prelude.{◌≡◌, ℕ, ◌-◌, ◌<◌, ◌≤◌, List, [], ◌∷◌, ◌++◌, All, drop, length, map, take, slice_index_or, ◌⊎◌}
+use Rattle.std.specs.Prelude.{◌≡◌, ℕ, ◌-◌, ◌<◌, ◌≤◌, List, [], ◌∷◌, ◌++◌, All, drop, length, map, take, slice_index_or}
 use Rattle.std.specs.List.{AllZip}
 use Rattle.seq_model.specs.Contacts.{IsContact, points_of}
 use Rattle.seq_model.specs.Sides.{AreSides}

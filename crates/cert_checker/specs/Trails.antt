@@ -11,7 +11,7 @@
 --   IsFit trail            its stamps and its marks are those of its path, and it has a row for each side
 --   HasRows job trail      its rows are those of the sides of its path
 --   HasRoom trail n        the path has room for n choices
-use Rattle.std.specs.Prelude.{◌≡◌, ℕ, zero, suc, ◌+◌, ◌*◌, ◌<◌, ◌≤◌, List, [], ◌∷◌, length, slice_index_or, take}
+use Rattle.std.specs.Prelude.{◌≡◌, ℕ, suc, ◌+◌, ◌*◌, ◌<◌, ◌≤◌, List, [], ◌∷◌, length, slice_index_or, take}
 use Rattle.std.specs.Vec.{vec_capacity}
 use Rattle.bound_sums.specs.Sparse.{IsShortSide, full_row}
 use Rattle.bound_sums.specs.declared.rows.Line.TheVariants as Lines

@@ -6,7 +6,7 @@
 --   to_come table trail frames    those of a trail, and of frames of which the last is the deepest
 --   AreOpen table trail frames    the splits of these frames are open there
 --   AreNested table d frames      the splits stand at depths that rise no more than d, and each has a child that is to come
-use Rattle.std.specs.Prelude.{◌≡◌, ℕ, ◌-◌, ◌<◌, ◌≤◌, List, [], ◌∷◌, ◌++◌, length, reverse, take, drop, map}
+use Rattle.std.specs.Prelude.{ℕ, ◌<◌, ◌≤◌, List, [], ◌∷◌, ◌++◌, length, reverse, take, map}
 use Rattle.seq_model.specs.Trees.{also}
 use Rattle.seq_model.specs.declared.tree.Choice.{Choice}
 use Rattle.cert_checker.specs.Kept.{range_of}

@@ -1,5 +1,5 @@
 -- A chain that is read and cut at its end.
-use Rattle.std.proofs.Common.{◌≡◌, ℕ, ◌-◌, ◌+◌, length, get_or, take, take_all, List, [], ◌∷◌, ◌++◌, refl, ap, sym, ◌∙◌, arith, pos, ◌≤ℤ◌, ◌<ℤ◌, Bool, true, false, cond}
+use Rattle.std.proofs.Common.{◌≡◌, ℕ, ◌+◌, length, get_or, take, take_all, List, [], ◌∷◌, ◌++◌, refl, ap, sym, ◌∙◌, arith, pos, ◌≤ℤ◌, ◌<ℤ◌, Bool, true, false, cond}
 use Rattle.std.proofs.lemmas.Int.{ints}
 use Rattle.std.proofs.lemmas.List.{take_more, reverse-append, get_or-take, length-take-le}
 use Rattle.std.specs.Prelude.{int_lt, reverse}

@@ -1,5 +1,5 @@
 -- The length that is computed is the one that is promised.
-use Rattle.std.proofs.Common.{◌≡◌, ◌≤◌, ◌↔◌, ℕ, ℤ, Bool, true, false, List, length, Option, Some, None, Result, Ok, Err, cond, nat_le, refl, sym, ap, ◌∙◌, subst, unsigned_abs, arith}
+use Rattle.std.proofs.Common.{◌≡◌, ◌≤◌, ◌↔◌, ℕ, ℤ, Bool, true, false, List, length, Option, Some, None, Result, Ok, Err, cond, nat_le, refl, sym, subst, unsigned_abs, arith}
 use Rattle.std.proofs.lemmas.Bool.Decides.{nat_tests}
 use Rattle.std.specs.Result.{result_ok}
 use Rattle.decimal_lengths.specs.declared.Decimal.{Decimal}
@@ -7,12 +7,12 @@ use Rattle.decimal_lengths.specs.declared.scanning.Phase.{Phase}
 use Rattle.decimal_lengths.specs.declared.scanning.Phase.TheVariants as Phases
 use Rattle.decimal_lengths.specs.Computed.{is_complete, if_near, length_behind, length_of}
 use Rattle.decimal_lengths.specs.Decimals.{signed}
-use Rattle.decimal_lengths.specs.Lengths.{IsLength, IsReadAs}
+use Rattle.decimal_lengths.specs.Lengths.{IsReadAs}
 use Rattle.decimal_lengths.specs.Refusals.{Answers}
 use Rattle.decimal_lengths.specs.Scanning.{State, reading, IsComplete}
 use Rattle.decimal_lengths.specs.Sizes.{size_of}
 use Rattle.decimal_lengths.proofs.Measuring.{length_read, one_length}
-use Rattle.decimal_lengths.proofs.Refusing.{Through, through, only_length}
+use Rattle.decimal_lengths.proofs.Refusing.{through, only_length}
 
 when_complete : (phase : Phase) → is_complete phase ≡ true → IsComplete phase
 when_complete Phases.Whole e = tt

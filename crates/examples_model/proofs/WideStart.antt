@@ -1,4 +1,4 @@
-use Rattle.std.proofs.Common.{◌≡◌, List, ℕ, zero, suc, ◌≤◌, [], ◌∷◌, refl, arith, pos, negsuc, ◌-ℤ◌, ◌*ℤ◌, Some, inl, inr, lit<}
+use Rattle.std.proofs.Common.{ℕ, ◌≤◌, [], ◌∷◌, refl, arith, pos, negsuc, ◌-ℤ◌, ◌*ℤ◌, Some, inr, lit<}
 use Rattle.std.proofs.Math.Nat.{eq-one_of_dvd-one}
 use lib.Signed.{le_z_yes}
 use Rattle.examples_model.specs.Solving.{big, wide_rows}

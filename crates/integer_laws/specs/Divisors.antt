@@ -5,7 +5,7 @@
 --   IsGcdOf a b g        g, not negative, is the greatest common divisor of two signed numbers; 0 for two zeros
 --   IsPrimitive x y      no number but 1 divides both of two signed numbers
 --   Reduces x y p q      (p, q) is primitive, and (x, y) a positive multiple of it
-use Rattle.std.proofs.Common.{◌≡◌, ℕ, zero, suc, ◌*◌, ◌%◌, ◌<◌, ◌≤◌, ℤ, pos, ◌*ℤ◌, ◌<ℤ◌, ◌≤ℤ◌, unsigned_abs}
+use Rattle.std.proofs.Common.{◌≡◌, ℕ, zero, suc, ◌%◌, ℤ, pos, ◌*ℤ◌, ◌<ℤ◌, ◌≤ℤ◌, unsigned_abs}
 use Rattle.std.specs.Int.{IsGcd, ◌∣◌}
 
 abbrev pub AreCoprime : ℕ → ℕ → Type 0

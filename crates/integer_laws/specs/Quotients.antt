@@ -2,7 +2,7 @@
 --
 --   floor a d, ceil a d              a / d rounded down, and rounded up. floor is std's `int_div_euclid`
 --   IsFloor a d q, IsCeil a d q      q is that number, by inequalities
-use Rattle.std.proofs.Common.{◌≤◌, ℤ, neg_ℤ, ◌+ℤ◌, ◌-ℤ◌, ◌*ℤ◌, ◌≤ℤ◌, ◌<ℤ◌}
+use Rattle.std.proofs.Common.{ℤ, neg_ℤ, ◌+ℤ◌, ◌-ℤ◌, ◌*ℤ◌, ◌≤ℤ◌, ◌<ℤ◌}
 use Rattle.std.specs.Int.{int_div_euclid}
 
 abbrev pub floor : ℤ → ℤ → ℤ

@@ -7,7 +7,6 @@ use Rattle.integer_laws.specs.Laws.Members.{In-from_contains, Contains-from_in, 
 use Rattle.seq_model.specs.declared.job.Object.{Object}
 use Rattle.seq_model.specs.declared.job.Zone.{Zone}
 use Rattle.seq_model.specs.declared.mesh.Facet.{Facet}
-use Rattle.seq_model.specs.declared.printer.Part.{Part}
 use Rattle.seq_model.specs.declared.printer.Printer.{Printer}
 use Rattle.seq_model.specs.declared.printer.Spot.{Spot}
 use Rattle.seq_model.specs.Bands.{corner_points, least_z, height_of, band_count}

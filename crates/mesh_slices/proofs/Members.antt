@@ -1,5 +1,5 @@
 -- What flat maps have as members, and what holds of them.
-use Rattle.std.proofs.Common.{◌≡◌, Bool, true, false, cond, ◌&&◌, List, [], ◌∷◌, flat_map, All, Contains, refl, inl, inr, subst, arith}
+use Rattle.std.proofs.Common.{◌≡◌, Bool, true, false, cond, List, [], ◌∷◌, flat_map, All, Contains, refl, inl, inr, subst, arith}
 use Rattle.std.proofs.lemmas.List.Elements.{All-nil, All-cons, All-append, All-tail, Contains-append_left, Contains-append_right}
 use Rattle.integer_laws.specs.Members.{In}
 

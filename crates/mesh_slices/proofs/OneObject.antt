@@ -10,7 +10,7 @@ use Rattle.seq_model.specs.declared.job.Zone.{Zone}
 use Rattle.seq_model.specs.declared.mesh.Facet.{Facet}
 use Rattle.seq_model.specs.declared.printer.Printer.{Printer}
 use Rattle.seq_model.specs.declared.printer.Spot.{Spot}
-use Rattle.seq_model.specs.Scenes.{Scene, Between, Spans, scene_of_files, description_of}
+use Rattle.seq_model.specs.Scenes.{Between, Spans}
 use Rattle.seq_model.specs.Soundness.{IsSoundZone, AreSoundZones}
 use Rattle.mesh_slices.specs.Objects.{spots_in, IsOutlineOf, HoldsBand, AreZonesOf, IsObjectOf}
 use Rattle.mesh_slices.specs.Runs.{IsRunOf, Holds, AreRunsOf}

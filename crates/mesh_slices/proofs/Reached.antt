@@ -7,14 +7,13 @@ use Rattle.integer_laws.specs.Laws.Ring.{one-mul}
 use Rattle.seq_model.specs.declared.mesh.Point3.{Point3}
 use Rattle.seq_model.specs.declared.mesh.Facet.{Facet}
 use Rattle.seq_model.specs.declared.printer.Spot.{Spot}
-use Rattle.seq_model.specs.declared.printer.Part.{Part}
 use Rattle.seq_model.specs.declared.printer.Printer.{Printer}
 use Rattle.seq_model.specs.Bands.{vertices, vertex_in, crossings, facet_corners, corner_points, heights, least_z, height_of, band_count}
 use Rattle.seq_model.specs.Bounds.{IsPrinter}
 use Rattle.integer_laws.specs.Extremes.{least, greatest}
 use Rattle.seq_model.specs.Outlines.{below, above, four_spots, spots}
 use Rattle.seq_model.specs.Points.{Point}
-use Rattle.seq_model.specs.Scenes.{Scene, SomeSpot, Spans, scene_of_files, description_of}
+use Rattle.seq_model.specs.Scenes.{SomeSpot, Spans}
 use Rattle.integer_laws.specs.Members.{In}
 use Rattle.integer_laws.specs.Laws.Members.{In-from_contains, In-map, All-in, All-from_in}
 use Rattle.mesh_slices.specs.Objects.{spots_in}

@@ -10,7 +10,7 @@
 --   CanBeSliced facets step        the mesh has a facet, and at most 200 bands
 --   IsTooTall facets step bands    it has a facet, and this many bands, more than 200
 --   IsRefusedAs facets step e      e says why it isn't sliced
-use Rattle.std.specs.Prelude.{ℕ, ℤ, ◌≡◌, ◌≢◌, ◌<◌, ◌≤◌, ◌+◌, ◌↔◌, List, [], ◌∷◌, All, AllPairs, Contains}
+use Rattle.std.specs.Prelude.{ℕ, ℤ, ◌≡◌, ◌≢◌, ◌<◌, ◌≤◌, ◌+◌, ◌↔◌, List, [], All, AllPairs, Contains}
 use Rattle.seq_model.specs.declared.job.Object.{Object}
 use Rattle.seq_model.specs.declared.job.Zone.{Zone}
 use Rattle.seq_model.specs.declared.mesh.Facet.{Facet}

@@ -1,7 +1,7 @@
 -- Regions are nested.
 --
 --   LiesWithin inner outer   a region lies in another, edges included
-use Rattle.std.proofs.Common.{◌+◌, ◌≤◌, ℤ, ◌+ℤ◌, ◌≤ℤ◌}
+use Rattle.std.proofs.Common.{◌+ℤ◌, ◌≤ℤ◌}
 use Rattle.seq_model.specs.declared.plate.Region.{Region}
 
 -- a region lies in another, edges included

@@ -6,7 +6,7 @@
 --                                            with this side of the contact added
 --   SideRefutes job e path c children nodes  the contact exists, its order is on the path, it has as many sides as there are children,
 --                                            and the nodes are one such tree for each of them
-use Rattle.std.proofs.Common.{◌≡◌, ℕ, ◌<◌, List, [], ◌∷◌, ◌++◌, Contains, length}
+use Rattle.std.proofs.Common.{◌≡◌, ℕ, ◌<◌, List, [], ◌∷◌, ◌++◌, length}
 use Rattle.seq_model.specs.Contacts.{IsContact, points_of}
 use Rattle.seq_model.specs.Sides.{AreSides}
 use Rattle.seq_model.specs.Trees.{also, IsReady, Refutes}

@@ -3,7 +3,7 @@
 --   StartsLeast C                  the first corner is before each other one
 --   LeftAbout a C                  any two of C, in their order, stand counterclockwise about a
 --   TurnsLeft C                    any three of C, in their order, turn left
-use Rattle.std.proofs.Common.{◌<◌, List, [], ◌∷◌, ℤ, pos, ◌<ℤ◌, All}
+use Rattle.std.proofs.Common.{List, [], ◌∷◌, pos, ◌<ℤ◌, All}
 use Rattle.seq_model.specs.Corners.{turn, IsBefore}
 use Rattle.seq_model.specs.declared.printer.Spot.{Spot}
 

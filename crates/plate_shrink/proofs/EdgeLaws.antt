@@ -4,10 +4,9 @@
 --   lies_of_valid         where a plan that is moved is valid, its edges lie so
 --   valid_of_lies         and where they do, a valid plan that is moved is valid
 --   lies_by_narrow        edges that are no farther apart than those of a region are moved into it
-use Rattle.std.proofs.Common.{◌≡◌, ℕ, ◌+◌, ◌<◌, ◌≤◌, ℤ, pos, ◌+ℤ◌, ◌-ℤ◌, ◌*ℤ◌, ◌≤ℤ◌, ◌<ℤ◌, List, [], ◌∷◌, length, fold, map, All, Contains, refl, sym, ap, ◌∙◌, subst, arith}
+use Rattle.std.proofs.Common.{◌≡◌, ℕ, ◌<◌, ◌≤◌, ℤ, pos, ◌+ℤ◌, ◌-ℤ◌, ◌*ℤ◌, ◌≤ℤ◌, ◌<ℤ◌, List, [], ◌∷◌, length, map, All, refl, sym, ap, ◌∙◌, subst, arith}
 use Rattle.std.proofs.lemmas.Int.{ints, clamps}
 use Rattle.std.proofs.lemmas.List.Elements.{All-cons, All-contains, All-head, All-nil, All-tail}
-use Rattle.std.specs.Int.{int_max, int_min}
 use Rattle.integer_laws.specs.Laws.Order.{add_le, add_lt_le, cancel_lt, le_from, lt_from, mul_le}
 use Rattle.integer_laws.specs.Laws.Quotients.{ceil_is, floor_is}
 use Rattle.integer_laws.specs.Laws.Ring.{expand}
@@ -20,7 +19,6 @@ use Rattle.seq_model.specs.Scenes.{In, Valid}
 use Rattle.seq_model.specs.declared.job.Job.{Job}
 use Rattle.seq_model.specs.declared.plan.Place.{Place}
 use Rattle.seq_model.specs.declared.plan.Plan.{Plan}
-use Rattle.seq_model.specs.declared.plate.Region.{Region}
 use Rattle.plate_shrink.specs.Edges.{AreNarrow, IsSpanOf, edges_of, edges_with, joined}
 use Rattle.plate_shrink.specs.declared.fitting.Edges.{Edges}
 use Rattle.plate_shrink.proofs.Shifts.{moved_by, plan_moved, valid_moved}

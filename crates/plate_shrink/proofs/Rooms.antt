@@ -6,22 +6,20 @@
 --   valid_room        the numbers of a valid plan are below 2^90 in size
 --   moved_found       a plan that was found is found again where it is moved into a region that it fits
 --   no_lower          and at no extent whose region is too small
-use Rattle.std.proofs.Common.{◌≡◌, ℕ, ◌+◌, ◌^◌, ◌<◌, ◌≤◌, ℤ, pos, neg_ℤ, ◌+ℤ◌, ◌-ℤ◌, ◌*ℤ◌, ◌≤ℤ◌, ◌<ℤ◌, unsigned_abs, List, [], ◌∷◌, length, get_or, All, Contains, refl, sym, ap, ◌∙◌, subst, arith}
+use Rattle.std.proofs.Common.{◌≡◌, ℕ, ◌^◌, ◌<◌, ◌≤◌, ℤ, pos, neg_ℤ, ◌+ℤ◌, ◌-ℤ◌, ◌*ℤ◌, ◌≤ℤ◌, ◌<ℤ◌, unsigned_abs, List, [], ◌∷◌, length, get_or, All, sym, ap, ◌∙◌, subst, arith}
 use Rattle.std.proofs.lemmas.Int.{ints, clamps}
 use Rattle.std.proofs.lemmas.List.Elements.{All-contains, All-from_get_or, All-get_or}
 use Rattle.integer_laws.specs.Laws.Order.{add_le, le_from, mul_le}
-use Rattle.integer_laws.specs.Laws.Quotients.{ceil_is, floor_is, floor_le_ceil, floor_unique}
+use Rattle.integer_laws.specs.Laws.Quotients.{floor_is, floor_le_ceil, floor_unique}
 use Rattle.integer_laws.specs.Laws.Ring.{expand}
-use Rattle.integer_laws.specs.Quotients.{ceil, floor}
 use Rattle.model_laws.specs.Laws.Nested.{nested}
 use Rattle.plan_laws.specs.Audits.{BoxOf}
 use Rattle.plan_laws.specs.Inside.{IsInside, region_at}
 use Rattle.plan_laws.specs.Laws.Audits.{box_by_in}
 use Rattle.plan_laws.specs.Laws.ObjectSpans.{object_spans}
 use Rattle.search_laws.specs.Laws.RowSizes.{extremes_near}
-use Rattle.seq_model.specs.Bounds.{IsNearSpot}
-use Rattle.seq_model.specs.Jobs.{bands_of, object_at, scene_of_job, no_place}
-use Rattle.seq_model.specs.Plates.{half_left, region_of, share_of}
+use Rattle.seq_model.specs.Jobs.{object_at, scene_of_job, no_place}
+use Rattle.seq_model.specs.Plates.{half_left, share_of}
 use Rattle.seq_model.specs.Scenes.{Between, Valid}
 use Rattle.seq_model.specs.declared.job.Job.{Job}
 use Rattle.seq_model.specs.declared.plan.Place.{Place}

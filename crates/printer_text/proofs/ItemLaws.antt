@@ -1,5 +1,5 @@
 -- The items that a loop has left, and the pairs that are read of them.
-use Rattle.std.proofs.Common.{◌≡◌, ℕ, zero, suc, ◌+◌, ◌<◌, ◌≤◌, ℤ, List, [], ◌∷◌, length, drop, get_or, Ok, Err, refl, arith}
+use Rattle.std.proofs.Common.{◌≡◌, ℕ, ◌+◌, ◌<◌, ◌≤◌, ℤ, List, [], ◌∷◌, length, drop, get_or, Ok, Err, refl, arith}
 use Rattle.std.proofs.lemmas.List.{drop_all}
 use Rattle.seq_model.specs.declared.printer.Spot.{Spot}
 use Rattle.toml.specs.Data.{Data, item}

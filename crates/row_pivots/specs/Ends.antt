@@ -6,7 +6,7 @@
 --   NoEntry free line               no entry is positive
 --   weight d out free line z        where nothing enters in the line of `out`: d for it, minus the entry of a free variable, 0 for others
 --   mults vars w n                  the first n rows, each with the weight of its slack, but for those of weight 0
-use Rattle.std.proofs.Common.{◌≡◌, ℕ, zero, suc, ◌+◌, ◌<◌, ◌^◌, List, [], ◌∷◌, ◌++◌, map, ℤ, pos, neg_ℤ, ◌≤ℤ◌, unsigned_abs}
+use Rattle.std.proofs.Common.{ℕ, zero, suc, ◌+◌, ◌<◌, ◌^◌, List, [], ◌∷◌, ◌++◌, map, ℤ, pos, neg_ℤ, ◌≤ℤ◌, unsigned_abs}
 use Rattle.std.specs.Int.Signed.{lt_z}
 use Rattle.std.specs.List.{range_with_len}
 use Rattle.std.specs.Prelude.{nat_eq, if◌then◌else◌}

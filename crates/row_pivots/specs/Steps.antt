@@ -8,7 +8,7 @@
 --   pivoted count t out into        the table of the next basis
 --   next_of count t                 the next table, or None where the walk stops
 --   steps_left count k t            how many steps the walk still takes from the table, at most k
-use Rattle.std.proofs.Common.{◌≡◌, ℕ, zero, suc, ◌+◌, List, [], ◌∷◌, length, map, get_or, set, ℤ, pos, ◌*ℤ◌, Option, Some, None, unsigned_abs, int_div}
+use Rattle.std.proofs.Common.{◌≡◌, ℕ, zero, suc, List, [], ◌∷◌, map, get_or, set, ℤ, pos, ◌*ℤ◌, Option, Some, None, unsigned_abs, int_div}
 use Rattle.integer_laws.specs.Divisors.{gcd_of}
 use Rattle.integer_laws.specs.Members.{In}
 use Rattle.row_laws.specs.Computed.{leaving, entering, line_of}

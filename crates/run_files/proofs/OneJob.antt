@@ -1,5 +1,5 @@
 -- A description and its meshes have one job: the hulls of the parts are one each, and so are the objects.
-use Rattle.std.proofs.Common.{◌≡◌, ℕ, ℤ, List, [], ◌∷◌, Option, refl, sym, ap, ap₂, subst, ◌∙◌}
+use Rattle.std.proofs.Common.{◌≡◌, ℕ, List, [], ◌∷◌, Option, refl, sym, ap, ap₂, subst, ◌∙◌}
 use Rattle.std.proofs.Props.{props}
 use Rattle.std.specs.List.{AllZip}
 use Rattle.mesh_slices.specs.Laws.Unique.{one_outline}

@@ -1,22 +1,21 @@
 -- What comes of reading one file after another.
-use Rattle.std.proofs.Common.{◌≡◌, ◌≤◌, ℕ, ℤ, List, length, Option, true, inl, inr, refl, ap, subst, ◌∙◌}
+use Rattle.std.proofs.Common.{◌≡◌, ℕ, ℤ, List, Option, true, inl, inr, refl, ap, subst, ◌∙◌}
 use Rattle.seq_io.specs.Counts.{raised}
-use Rattle.seq_io.specs.Files.{GivesFile, LongerThan}
+use Rattle.seq_io.specs.Files.{LongerThan}
 use Rattle.seq_io.specs.Views.{ShelfView}
 use Rattle.seq_io.specs.declared.mem_file.MemFile.{MemFile}
 use Rattle.seq_io.specs.declared.shelf.ReadAll.{ReadAll}
 use Rattle.seq_io.specs.declared.shelf.ReadAll.TheVariants as Unread
 use Rattle.seq_model.specs.declared.mesh.Facet.{Facet}
-use Rattle.run_files.specs.Causes.{IsRefusedMesh, IsRefusedPlan, IsUnfitFor, IsUnstated, Reaches, Refuses, StatesNone}
-use Rattle.run_files.specs.Files.{IsMeshFile, limit_of, name_in, plan_limit}
-use Rattle.run_files.specs.Stops.{Explains, IsNextFile, IsUnread, IsUntouched, NextRead, ReadUpTo, WantsMemory, stop_of, unfit_stop}
+use Rattle.run_files.specs.Causes.{IsRefusedMesh, IsUnfitFor, Reaches, Refuses}
+use Rattle.run_files.specs.Files.{IsMeshFile, limit_of, name_in}
+use Rattle.run_files.specs.Stops.{Explains, IsNextFile, IsUnread, IsUntouched, NextRead, ReadUpTo, WantsMemory, stop_of}
 use Rattle.run_files.specs.declared.stop.Cause.{Cause}
 use Rattle.run_files.specs.declared.stop.Cause.TheVariants as Causes
 use Rattle.run_files.specs.declared.stop.NamedFile.{NamedFile}
 use Rattle.run_files.specs.declared.stop.NamedFile.TheVariants.{Printer, Plan, Mesh}
 use Rattle.run_files.specs.declared.stop.Stop.TheVariants.{Memory}
-use Rattle.run_files.specs.declared.stop.Unfit.{Unfit}
-use Rattle.run_files.specs.declared.stop.Unfit.TheVariants.{Because, NoMemory}
+use Rattle.run_files.specs.declared.stop.Unfit.TheVariants.{NoMemory}
 use Rattle.run_files.specs.declared.words.Asked.{Asked}
 use Rattle.run_files.specs.declared.words.Task.{Task}
 
@@ -66,25 +65,6 @@ unread a file s s1 s' Unread.NoMemory due (inr r) = inr (record { file = file; b
 -- memory was wanting once a file was read
 pub unkept : (a : Asked) (file : NamedFile) (s s1 s' : ShelfView) → IsNextFile a file s s1 → NextRead (name_in a file) s1 s' → Explains a s s' Memory
 unkept a file s s1 s' due r = inr (record { file = file; before = due.before; read = read_due a file s s1 s' due r })
-
--- the bytes of a plan that state none refuse their file
-unstated_plan : (files : Option (List MemFile)) (task : Task) (name bytes : List ℕ) (c : Cause) → GivesFile files name bytes → length bytes ≤ plan_limit → StatesNone task bytes c → IsRefusedPlan files task name c
-unstated_plan files task name bytes Causes.TooLong gives short u = absurd u.cause
-unstated_plan files task name bytes (Causes.Printer e) gives short u = absurd u.cause
-unstated_plan files task name bytes (Causes.Plan e) gives short u = record { bytes = bytes; gives = gives; short = short; refused = u }
-unstated_plan files task name bytes (Causes.Block e) gives short u = record { bytes = bytes; gives = gives; short = short; refused = u }
-unstated_plan files task name bytes (Causes.Stl e) gives short u = absurd u.cause
-unstated_plan files task name bytes (Causes.NotClosed edges volume) gives short u = absurd u.cause
-unstated_plan files task name bytes Causes.Flat gives short u = absurd u.cause
-unstated_plan files task name bytes (Causes.TooTall bands) gives short u = absurd u.cause
-
-pub unstated : (a : Asked) (s s1 s' : ShelfView) (bytes : List ℕ) (why : Unfit) → IsNextFile a Plan s s1 → NextRead (name_in a Plan) s1 s' → GivesFile s1.files (name_in a Plan) bytes → length bytes ≤ plan_limit → IsUnstated a.task bytes why
-    → Explains a s s' (unfit_stop Plan why)
-unstated a s s1 s' bytes (Because c) due next gives short u = record {
-  refused = record { before = due.before; refused = unstated_plan s.files a.task (name_in a Plan) bytes c (subst (λ fs. GivesFile fs (name_in a Plan) bytes) due.files gives) short u };
-  read = read_due a Plan s s1 s' due next;
-}
-unstated a s s1 s' bytes NoMemory due next gives short u = inr (record { file = Plan; before = due.before; read = read_due a Plan s s1 s' due next })
 
 pub unfit_mesh : (files : Option (List MemFile)) (name : List ℕ) (task : Task) (step : ℤ) (facets : List Facet) (dropped : ℕ) (c : Cause) → IsMeshFile files name facets dropped → IsUnfitFor task facets step c → IsRefusedMesh files name task step c
 unfit_mesh files name task step facets dropped Causes.TooLong is u = absurd u

@@ -6,11 +6,11 @@ use Rattle.std.specs.List.{AllZip}
 use Rattle.decision_text.specs.DecisionText.{IsTextOf, decision_text, excludes, outcome_text, statement_for, statement_of}
 use Rattle.decision_text.specs.Laws.Spelled.{decision_stated, outcome_stated}
 use Rattle.decision_text.specs.declared.statement.Statement.{Statement}
-use Rattle.plate_shrink.specs.Outcomes.{ExcludesBelow, IsLeastOutcome}
+use Rattle.plate_shrink.specs.Outcomes.{ExcludesBelow}
 use Rattle.plate_shrink.specs.declared.outcome.Outcome.TheVariants as Outcomes
 use Rattle.refinement_loop.specs.Decisions.{IsRefutation}
 use Rattle.refinement_loop.specs.declared.deciding.Decision.TheVariants.{Refuted}
-use Rattle.run_files.specs.Files.{AreUsable, Inputs, IsPrinterFile, IsUsableMesh, NamedMesh, StatesPlan, plan_limit}
+use Rattle.run_files.specs.Files.{Inputs, IsPrinterFile, IsUsableMesh, NamedMesh, StatesPlan}
 use Rattle.run_files.specs.Jobs.{IsJobOf}
 use Rattle.run_files.specs.Plans.{IsBlockOf, reads_block}
 use Rattle.run_files.specs.Words.{is_strict}
@@ -23,7 +23,6 @@ use Rattle.seq_io.specs.Files.{bytes_of}
 use Rattle.seq_io.specs.declared.mem_file.MemFile.{MemFile}
 use Rattle.seq_model.specs.Scenes.{Description}
 use Rattle.seq_model.specs.declared.job.Job.{Job}
-use Rattle.seq_model.specs.declared.plan.Plan.{Plan}
 use Rattle.seq_model.specs.declared.tree.Tree.{Tree}
 use Rattle.seq_run.specs.Arranged.{PassesCheck, PrintsLeast, PrintsNone}
 use Rattle.seq_run.specs.Premises.{HasFaultlessPlan}

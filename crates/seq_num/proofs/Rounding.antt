@@ -1,12 +1,11 @@
 -- The quotients lie between their bounds.
-use Rattle.std.proofs.Common.{ℕ, ℤ, pos, negsuc, ◌≡◌, ◌≤ℤ◌, ◌<ℤ◌, ◌*ℤ◌, neg_ℤ, unsigned_abs, arith, sym, ap₂, ◌∙◌, subst}
+use Rattle.std.proofs.Common.{ℕ, ℤ, pos, negsuc, ◌≡◌, ◌≤ℤ◌, ◌<ℤ◌, neg_ℤ, unsigned_abs, arith, sym, ap₂, ◌∙◌, subst}
 use Rattle.std.proofs.lemmas.Int.{ints}
 use Rattle.integer_laws.specs.Quotients.{floor, ceil, IsFloor, IsCeil}
 use Rattle.integer_laws.specs.Laws.Quotients.{floor_is, ceil_is}
 use Rattle.integer_laws.specs.Laws.Ring.{neg-neg}
 use Rattle.seq_num.specs.Nearest.{IsNearest, half_up}
 use Rattle.seq_num.specs.Laws.Nearest.{half_up_is, nearest_half, IsNearest-neg}
-use borrow.Author.Differences.{neg_is, product_is}
 
 pub floor_rounds : (a d : ℤ) → pos 1 ≤ℤ d → IsFloor a d (floor a d)
 floor_rounds a d h = floor_is a d (omega (arith, ints))

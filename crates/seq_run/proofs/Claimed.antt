@@ -1,5 +1,5 @@
 -- What a check makes of a plan that was read, and what it says of its files.
-use Rattle.std.proofs.Common.{◌≡◌, ◌&&◌, ℕ, ◌-◌, Bool, true, false, List, drop, Option, Some, None, nat_lt, refl, sym, ◌∙◌, subst}
+use Rattle.std.proofs.Common.{◌≡◌, ◌&&◌, ℕ, ◌-◌, Bool, true, false, List, drop, Option, Some, None, refl, sym, ◌∙◌, subst}
 use Rattle.cert_text.specs.TreeText.{IsTreeText}
 use Rattle.cert_text.specs.declared.block.Head.{Head}
 use Rattle.cert_text.specs.declared.block.Kind.TheVariants.{Certificate}
@@ -21,7 +21,7 @@ use Rattle.seq_model.specs.Jobs.{scene_of_job}
 use Rattle.seq_model.specs.Scenes.{Description}
 use Rattle.seq_model.specs.declared.job.Job.{Job}
 use Rattle.seq_model.specs.declared.tree.Tree.{Tree}
-use Rattle.seq_run.specs.Judged.{IsJudgedAs, PrintsClaimFault, PrintsPass, scene_of}
+use Rattle.seq_run.specs.Judged.{IsJudgedAs, scene_of}
 use Rattle.seq_run.specs.Planning.{CanBeJudged, PrintsFor, verdict_of_judgement}
 
 -- ---- the block that a claim asks for was read

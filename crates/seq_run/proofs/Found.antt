@@ -5,7 +5,7 @@
 --   undecided_enough, open_enough          with enough budget nothing is left open
 --   searched_faulty, done_faulty           what is faulty isn't answered otherwise
 --   searched_faultless, fault_faultless    nor is what is faultless
-use Rattle.std.proofs.Common.{◌≡◌, ◌≤◌, ◌<◌, ◌-◌, ℕ, List, Some, ◌⊎◌, inl, inr, refl, sym, ap, ◌∙◌, subst, arith}
+use Rattle.std.proofs.Common.{◌≡◌, ◌≤◌, ◌<◌, ◌-◌, ℕ, List, Some, inl, inr, sym, ap, ◌∙◌, subst, arith}
 use Rattle.claim_checker.specs.declared.verdict.Judgement.{Judgement}
 use Rattle.claim_checker.specs.declared.verdict.Judgement.TheVariants as Judgements
 use Rattle.model_laws.specs.Laws.OnePath.{stands_at_path}

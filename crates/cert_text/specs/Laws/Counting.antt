@@ -1,5 +1,5 @@
 -- Steps of the reading of a tree's lines.
-use Rattle.std.proofs.Common.{◌≡◌, ℕ, ◌+◌, ◌-◌, ◌≤◌, ◌<◌, ◌^◌, List, [], ◌∷◌, ◌++◌, inl, inr, length, reverse, replicate, Ok, refl, sym, ap, subst, ◌∙◌, arith, All, true, false, ◌⊎◌, Err}
+use Rattle.std.proofs.Common.{◌≡◌, ℕ, ◌+◌, ◌≤◌, ◌<◌, ◌^◌, List, [], ◌∷◌, ◌++◌, inl, inr, length, reverse, replicate, Ok, refl, sym, ap, subst, ◌∙◌, arith, All, true, false, ◌⊎◌, Err}
 use Rattle.std.proofs.lemmas.List.{reverse-append}
 use Rattle.std.proofs.lemmas.List.Elements.{All-head, All-tail}
 use Rattle.seq_model.specs.declared.tree.Node.{Node}

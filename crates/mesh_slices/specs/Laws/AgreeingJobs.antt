@@ -8,7 +8,7 @@
 --   agree_with_job     the scene of the files agrees with that of the job
 --   same_plans_of_job  so both have the same valid plans
 --   same_least_of_job  and the same least extents
-use Rattle.std.proofs.Common.{◌≡◌, ◌<◌, ℕ, zero, suc, Bool, true, false, cond, ◌&&◌, List, [], ◌∷◌, length, All, Contains, Some, refl, sym, subst, ap, ◌∙◌, arith, inl, inr, ◌≢◌}
+use Rattle.std.proofs.Common.{◌≡◌, ◌<◌, ℕ, zero, suc, Bool, true, false, cond, List, [], ◌∷◌, length, All, Contains, Some, refl, sym, subst, ap, ◌∙◌, arith, inl, inr, ◌≢◌}
 use Rattle.std.specs.Prelude.{◌↔◌, slice_index_or, find, nat_le}
 use Rattle.std.proofs.lemmas.Bool.{true≢false, leb-true, le-leb, and_parts}
 use Rattle.std.specs.List.{AllZip}

@@ -11,7 +11,6 @@ use Rattle.std.proofs.lemmas.Int.{ints}
 use Rattle.std.proofs.lemmas.List.Elements.{All-get_or}
 use Rattle.std.proofs.lemmas.Option.{same_Some, none-some}
 use Rattle.std.specs.Prelude.{find, nat_le, cond, MatchOption}
-use lib.Dec.{T}
 use Rattle.seq_model.specs.Contacts.{ContactCollides, reaches_to, ZonesMeet, IsContact}
 use Rattle.seq_model.specs.Jobs.{no_object, no_zone, no_part, object_at, zone_at, part_at, holds_band, corners_or_none, scene_of_job}
 use Rattle.seq_model.specs.Outlines.{Inner}

@@ -7,7 +7,7 @@
 --   path_also        one more such choice on a path of the job
 --   children_are_paths   the children of a sound node at a path of the job stand at paths of the job
 --   reads_paths          and so does whatever is read below such paths
-use Rattle.std.proofs.Common.{◌≡◌, ℕ, inl, inr, List, [], ◌∷◌, ◌++◌, All, Contains, ◌⊎◌, drop, get_or, length, arith, refl, sym, ap, subst, ◌∙◌, map, append_assoc}
+use Rattle.std.proofs.Common.{◌≡◌, ℕ, inl, inr, List, [], ◌∷◌, ◌++◌, All, ◌⊎◌, drop, get_or, length, arith, refl, sym, ap, subst, ◌∙◌, map, append_assoc}
 use Rattle.std.proofs.lemmas.List.Elements.{All-nil, All-cons, All-head, All-tail, All-append}
 use Rattle.integer_laws.specs.Members.{In}
 use Rattle.integer_laws.specs.Laws.Members.{Contains-from_in}

@@ -6,24 +6,22 @@
 --   next_is                  it is the first of the edges, reduced
 --   sides_are                the sides are those of all edges
 --   next_of_edges            and the next one is the first of them
-use Rattle.std.proofs.Common.{◌≡◌, ℕ, suc, ◌<◌, ◌≤◌, List, [], ◌∷◌, ◌++◌, map, length, refl, ap, ap₂, sym, subst, ◌∙◌, arith, ℤ, pos, neg_ℤ, ◌*ℤ◌, ◌⊎◌, inl, inr, ◌↔◌, Bool, true, false, cond, Option, Some, None, AllPairs}
+use Rattle.std.proofs.Common.{◌≡◌, List, [], ◌∷◌, ◌++◌, map, refl, ap, ap₂, sym, subst, ◌∙◌, arith, ℤ, pos, neg_ℤ, ◌*ℤ◌, ◌⊎◌, inl, inr, ◌↔◌, true, false, Option, Some, None}
 use Rattle.std.proofs.lemmas.Int.{ints}
-use Rattle.std.proofs.lemmas.List.Quantifiers.{all_pairs_push}
 use Rattle.std.proofs.lemmas.Option.{none-some}
 use Rattle.integer_laws.specs.Laws.Ring.{expand}
 use Rattle.integer_laws.specs.Laws.Order.{same_from, mul_same, cancel_same}
 use Rattle.integer_laws.specs.Divisors.{Reduces}
 use Rattle.integer_laws.specs.Members.{In}
-use Rattle.integer_laws.specs.Laws.Members.{In-from_contains, Contains-from_in, In-append_left, In-append_right, In-append_cases, In-map, In-map_cases, All-from_in}
+use Rattle.integer_laws.specs.Laws.Members.{In-append_left, In-append_right, In-append_cases, In-map, In-map_cases}
 use Rattle.seq_model.specs.Contacts.{difference}
-use Rattle.seq_model.specs.Sides.{Side, HasLesserAngle, AreSides}
+use Rattle.seq_model.specs.Sides.{Side, HasLesserAngle}
 use Rattle.seq_model.specs.declared.printer.Spot.{Spot}
 use Rattle.seq_model.specs.declared.tree.Dir.{Dir}
 use Rattle.outline_laws.specs.Outlines.{AreOutlines}
 use Rattle.outline_laws.specs.Corners.{AreCorners}
-use Rattle.outline_laws.specs.Laws.Sides.{not_both}
-use Rattle.outline_laws.specs.Laws.Angles.{IsDirection, HaveSameAngle, compare_angles, lesser_trans, lesser_congr, lesser_congr_right, same_not_lesser, same_reduced, same_turned, reduced_direction, one_primitive}
-use Rattle.outline_laws.specs.Laws.Ahead.{edges_of, Across, side_across, is_zero, is_after, After, IsFirst, first_after, first_is, after_is, not_after, direction_of, no_direction, no_truth, is_lesser}
+use Rattle.outline_laws.specs.Laws.Angles.{IsDirection, HaveSameAngle, compare_angles, lesser_congr, lesser_congr_right, same_reduced, same_turned, reduced_direction, one_primitive}
+use Rattle.outline_laws.specs.Laws.Ahead.{edges_of, Across, side_across, After, IsFirst, first_after, first_is}
 use Rattle.outline_laws.specs.Laws.Loops.{back, edges_if, edges_plain, edges_turned, first-append}
 use Rattle.outline_laws.specs.Laws.Differences.{AnySide, side_of_any, side_cases, back_primitive, forth_primitive}
 pub use Rattle.outline_laws.specs.Edges.{all_edges}

@@ -3,7 +3,7 @@
 --   clear_of S q d          whether the point is below the greatest value along d, or d is no direction
 --   clear_is                for a list whose sides are edges, reduced
 --   inner_where_clear       and then it is inner, where the list has area
-use Rattle.std.proofs.Common.{◌≡◌, ℕ, zero, suc, ◌+◌, ◌*◌, ◌≤◌, ◌<◌, ◌^◌, length, unsigned_abs, int_div, List, [], ◌∷◌, ◌++◌, map, refl, ap, ap₂, sym, subst, ◌∙◌, arith, ℤ, pos, neg_ℤ, ◌+ℤ◌, ◌*ℤ◌, ◌≤ℤ◌, ◌<ℤ◌, inl, inr, ◌↔◌, Bool, true, false, ◌&&◌, ◌||◌}
+use Rattle.std.proofs.Common.{◌≡◌, ℕ, zero, suc, ◌*◌, ◌≤◌, ◌<◌, ◌^◌, length, unsigned_abs, int_div, List, [], ◌∷◌, ◌++◌, map, refl, ap, ap₂, sym, subst, ◌∙◌, arith, ℤ, pos, neg_ℤ, ◌+ℤ◌, ◌*ℤ◌, ◌≤ℤ◌, ◌<ℤ◌, inl, inr, ◌↔◌, Bool, true, false, ◌&&◌, ◌||◌}
 use Rattle.std.specs.Prelude.{int_lt}
 use Rattle.std.specs.List.{list_all}
 use Rattle.std.proofs.lemmas.Int.{ints, by_lt_z, unsigned_abs-mul}
@@ -24,7 +24,6 @@ use Rattle.seq_model.specs.Points.{Point, IsPoint}
 use Rattle.seq_model.specs.Sides.{along, greatest_along, Side, Beyond}
 use Rattle.seq_model.specs.declared.printer.Spot.{Spot}
 use Rattle.seq_model.specs.declared.tree.Dir.{Dir}
-use Rattle.seq_model.specs.declared.point.RatPoint.{RatPoint}
 use Rattle.model_laws.specs.Laws.Turning.{left_by_list}
 use Rattle.outline_laws.specs.Corners.{HasArea}
 use Rattle.outline_laws.specs.Outlines.{AreOutlines}
@@ -33,7 +32,7 @@ use Rattle.outline_laws.specs.Laws.Means.{inner_below}
 use Rattle.outline_laws.specs.Laws.Sides.{Lower, some_below, greatest_of, some_size, free_of_inner, inner_of_free}
 use Rattle.outline_laws.specs.Laws.Edges.{area_of_turns}
 use Rattle.outline_laws.specs.Laws.Angles.{IsDirection}
-use Rattle.outline_laws.specs.Laws.Ahead.{Across, is_zero, direction_of, no_direction, no_truth, edges_of}
+use Rattle.outline_laws.specs.Laws.Ahead.{Across, is_zero, direction_of, no_direction, edges_of}
 use Rattle.outline_laws.specs.Laws.Loops.{IsShort, edges_if, edges_plain, edges_turned, back}
 use Rattle.outline_laws.specs.Laws.Differences.{area_of_difference, greatest_difference}
 use Rattle.outline_laws.specs.Laws.Around.{all_edges, sides_are, long_direction}

@@ -9,9 +9,8 @@
 --   ascending_from_sorted    so a sort leaves them
 --   sides_of_corners, sides_of_difference     what is reduced of the edges are the sides
 --   walk_is                  a walk of an ascending list gives each direction once, by angle
-use Rattle.std.proofs.Common.{◌≡◌, ℕ, zero, suc, ◌+◌, ◌<◌, ◌≤◌, List, [], ◌∷◌, length, get_or, refl, ap, sym, subst, ◌∙◌, arith, ℤ, pos, neg_ℤ, ◌+ℤ◌, ◌-ℤ◌, ◌*ℤ◌, ◌≤ℤ◌, ◌<ℤ◌, ◌⊎◌, inl, inr, ◌↔◌, Bool, true, false, cond, ◌&&◌, ◌||◌, not, Option, Some, None, All, AllPairs, Contains, int_div, unsigned_abs, IsPermutation}
+use Rattle.std.proofs.Common.{◌≡◌, ℕ, suc, ◌<◌, ◌≤◌, List, [], ◌∷◌, length, get_or, refl, ap, sym, subst, ◌∙◌, arith, ℤ, pos, ◌-ℤ◌, ◌*ℤ◌, ◌⊎◌, inl, inr, ◌↔◌, Bool, true, false, cond, ◌&&◌, ◌||◌, not, Option, Some, None, AllPairs, Contains, int_div, unsigned_abs, IsPermutation}
 use Rattle.std.specs.Prelude.{int_lt}
-use Rattle.std.specs.declared.cmp.Ordering.{Ordering}
 use Rattle.std.specs.Ordering.{int_cmp, bool_cmp, ordering_then, is_lt}
 use Rattle.std.specs.Cmp.{IsStrictWeakOrder}
 use Rattle.std.specs.List.Sorted.{IsSortedBy}
@@ -19,7 +18,7 @@ use Rattle.std.proofs.lemmas.Int.{ints}
 use Rattle.std.proofs.lemmas.Bool.Decides.{nat_tests}
 use Rattle.std.proofs.lemmas.List.Kept.{AllPairs-cons}
 use Rattle.std.proofs.lemmas.List.Sorted.{sorted_far, Contains-permutation, IsPermutation-sym}
-use Rattle.integer_laws.specs.Divisors.{Reduces, IsPrimitive, IsGcdOf}
+use Rattle.integer_laws.specs.Divisors.{Reduces}
 use Rattle.integer_laws.specs.Laws.Divisors.{gcd_is, reduces_by_gcd, reduced_unique}
 use Rattle.integer_laws.specs.Members.{In}
 use Rattle.integer_laws.specs.Laws.Members.{In-from_contains, Contains-from_in, All-from_in}
@@ -32,7 +31,7 @@ use Rattle.outline_laws.specs.Directions.{IsDirection, HaveSameAngle, IsGoodAfte
 use Rattle.outline_laws.specs.Outlines.{AreOutlines}
 use Rattle.outline_laws.specs.Edges.{Across, edges_of, all_edges}
 use Rattle.outline_laws.specs.Laws.Ahead.{side_across, lesser_is, is_lesser, direction_of, no_direction, no_truth, after_is, not_after}
-use Rattle.outline_laws.specs.Laws.Angles.{compare_angles, lesser_trans, lesser_congr, lesser_congr_right, lesser_not_back, same_not_lesser, same_reduced, same_turned, reduced_direction, one_primitive}
+use Rattle.outline_laws.specs.Laws.Angles.{compare_angles, lesser_trans, lesser_congr, lesser_congr_right, lesser_not_back, same_reduced, same_turned, reduced_direction, one_primitive}
 use Rattle.outline_laws.specs.Laws.Around.{long_direction, sides_are}
 use Rattle.outline_laws.specs.Laws.Sides.{some_size}
 

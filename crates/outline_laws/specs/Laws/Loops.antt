@@ -38,5 +38,3 @@ edges_turned (c ∷ cs) = turned_along (last_of c cs) (c ∷ cs)
 pub first-append : (after best : Option Dir) (ds es : List Dir) → first_after after best (ds ++ es) ≡ first_after after (first_after after best ds) es
 first-append after best [] es = refl
 first-append after best (d ∷ ds) es = first-append after (better after best d) ds es
-
--- ---- the greatest value

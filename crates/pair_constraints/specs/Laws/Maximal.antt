@@ -7,13 +7,12 @@ use Rattle.std.proofs.Common.{◌≡◌, ℕ, zero, suc, ◌<◌, ◌≤◌, Lis
 use Rattle.std.proofs.lemmas.Bool.{cases_lt}
 use Rattle.integer_laws.specs.Members.{In}
 use Rattle.integer_laws.specs.Laws.Members.{All-in, All-from_in, In-append_cases, In-map_cases}
-use Rattle.model_laws.specs.Laws.Collisions.{any_default}
 use Rattle.search_laws.specs.Covering.{Covers}
 use Rattle.search_laws.specs.Laws.Gaps.{area_of_contact}
 use Rattle.seq_model.specs.Contacts.{points_of}
 use Rattle.seq_model.specs.declared.job.Job.{Job}
 use Rattle.seq_model.specs.declared.tree.Contact.{Contact}
-use Rattle.pair_constraints.specs.Maximal.{AreApart, IsMaximal, IsOf, IsPair, contacts_of, kept_contacts}
+use Rattle.pair_constraints.specs.Maximal.{AreApart, IsMaximal, IsOf, IsPair, kept_contacts}
 use Rattle.pair_constraints.specs.Laws.Numbered.{AreBy}
 use Rattle.pair_constraints.specs.Laws.Reaching.{covers_onward}
 use Rattle.pair_constraints.specs.Laws.Rows.{AreRows, IsRow}

@@ -3,7 +3,7 @@
 --   description-one        two descriptions of the same bytes are the same
 --   refusal-one            two causes of the same bytes are the same
 --   description-refusal    bytes with a description have no cause
-use Rattle.std.proofs.Common.{◌≡◌, ℕ, List, Result, Ok, Err, inl, inr, sym, ap, subst, ◌∙◌, Some}
+use Rattle.std.proofs.Common.{◌≡◌, ℕ, List, Result, Ok, Err, inl, inr, sym, subst, ◌∙◌, Some}
 use Rattle.seq_model.specs.Scenes.{Description}
 use Rattle.toml.specs.Data.{Members}
 use Rattle.printer_text.specs.Printers.{DescribedBy, IsRefusedPrinter, IsTreeOf, description_in}

@@ -8,7 +8,7 @@
 --   short                           and a run has fewer than 2^n changes, for n variables and slacks
 --   Distinct bases                  no basis stands twice in the list
 --   follow_distinct, follow_short   the laws of a list of bases of which each follows from the one before
-use Rattle.std.proofs.Common.{◌≡◌, ◌≢◌, ℕ, zero, suc, ◌+◌, ◌<◌, ◌≤◌, ◌^◌, List, [], ◌∷◌, ◌++◌, length, map, Contains, refl, ap, sym, subst, ◌∙◌, arith, ℤ, pos, ◌+ℤ◌, ◌*ℤ◌, ◌≤ℤ◌, ◌<ℤ◌, ◌⊎◌, inl, inr, true, false, Bool, ◌↔◌}
+use Rattle.std.proofs.Common.{◌≡◌, ◌≢◌, ℕ, zero, suc, ◌+◌, ◌<◌, ◌≤◌, ◌^◌, List, [], ◌∷◌, ◌++◌, length, map, Contains, refl, ap, sym, subst, ◌∙◌, arith, ℤ, pos, ◌+ℤ◌, ◌*ℤ◌, ◌≤ℤ◌, ◌<ℤ◌, ◌⊎◌, inl, inr, ◌↔◌}
 use Rattle.std.proofs.lemmas.Bool.{cases_lt}
 use Rattle.std.proofs.lemmas.Int.{ints, by_lt_z}
 use Rattle.std.specs.Prelude.{not}
@@ -20,14 +20,14 @@ use Rattle.integer_laws.specs.Laws.Order.{mul_le, mul_lt, cancel_le, mul_nonneg}
 use Rattle.integer_laws.specs.Laws.Ring.{expand}
 use Rattle.integer_laws.specs.Vectors.{dot, scale}
 use Rattle.integer_laws.specs.Laws.Vectors.{dot-plus, dot-scale}
-use Rattle.row_laws.specs.Laws.Independence.{vectors_of, is_in_member, from_zero}
+use Rattle.row_laws.specs.Laws.Independence.{is_in_member, from_zero}
 use Rattle.row_laws.specs.Laws.Lines.{has_same, member}
-use Rattle.row_laws.specs.Laws.Pivots.{below, of_filter, free_climbs, Swaps}
-use Rattle.row_pivots.specs.Laws.Changes.{Change, Moves, Under, AllUnder, NeverTwice, FirstMove, find, weaker, rest_under, few_changes}
+use Rattle.row_laws.specs.Laws.Pivots.{below, of_filter, free_climbs}
+use Rattle.row_pivots.specs.Laws.Changes.{Change, Moves, Under, AllUnder, NeverTwice, FirstMove, find, rest_under, few_changes}
 use Rattle.row_pivots.specs.Laws.Values.{FormValues, values, says_has, has_line, free_or_basic}
 use Rattle.seq_model.specs.Dictionaries.{meaning, one, combination, is_in, free_of, Form, Has}
 use Rattle.seq_model.specs.declared.row.Row.{Row}
-use Rattle.seq_model.specs.Walks.{constant, entries, Leaves, Enters, Pivots, IsWide, Follow}
+use Rattle.seq_model.specs.Walks.{constant, entries, Leaves, Enters, Pivots, Follow}
 use Rattle.row_pivots.specs.Steps.{Distinct}
 
 -- ---- the two bases

@@ -5,8 +5,7 @@
 --   NoEntry free line               no entry is positive
 --   contradicts                     they are a Contradiction
 --   few_mults, some_mults, rising_mults, positive_mults     at most vars + 1 of them, at least one, by rising rows, each at least once
-use Rattle.std.proofs.Common.{◌≡◌, ℕ, zero, suc, ◌+◌, ◌-◌, ◌<◌, ◌≤◌, List, [], ◌∷◌, ◌++◌, length, map, get_or, All, refl, ap, ap₂, sym, subst, ◌∙◌, arith, ℤ, pos, neg_ℤ, ◌+ℤ◌, ◌-ℤ◌, ◌*ℤ◌, ◌≤ℤ◌, ◌<ℤ◌, ◌⊎◌, inl, inr, Bool, true, false, ◌||◌}
-use Rattle.std.proofs.lemmas.Bool.{cases_lt}
+use Rattle.std.proofs.Common.{◌≡◌, ℕ, zero, suc, ◌+◌, ◌<◌, ◌≤◌, List, [], ◌∷◌, ◌++◌, length, map, get_or, All, refl, ap, ap₂, sym, subst, ◌∙◌, arith, ℤ, pos, neg_ℤ, ◌+ℤ◌, ◌*ℤ◌, ◌≤ℤ◌, ◌<ℤ◌, ◌⊎◌, inl, inr, Bool, true, false, ◌||◌}
 use Rattle.std.proofs.lemmas.Int.{ints}
 use Rattle.std.proofs.lemmas.List.{length-map}
 use Rattle.std.proofs.lemmas.List.Filters.{length-filter_both}
@@ -19,18 +18,17 @@ use lib.Signed.{lt_z_yes, lt_z_no}
 use Rattle.integer_laws.specs.Members.{In}
 use Rattle.integer_laws.specs.Laws.Members.{In-append_cases, In-map_cases, All-from_in}
 use Rattle.integer_laws.specs.Laws.Ring.{expand}
-use Rattle.integer_laws.specs.Vectors.{dot, plus, scale}
+use Rattle.integer_laws.specs.Vectors.{dot, scale}
 use Rattle.integer_laws.specs.Laws.Vectors.{get_or-plus, get_or-scale}
-use Rattle.row_laws.specs.Laws.Independence.{true_or_false, in_basis, is_in_member, In-range, Climbs, taken, past_the_end}
+use Rattle.row_laws.specs.Laws.Independence.{true_or_false, in_basis, is_in_member, In-range, Climbs, taken}
 use Rattle.row_laws.specs.Laws.OneForm.{any_default}
 use Rattle.row_laws.specs.Laws.Pivots.{to_rises}
 use Rattle.row_pivots.specs.Laws.Pivoting.{Line, line_each, column}
-use Rattle.row_pivots.specs.Tables.{AreRowsOf}
 use Rattle.row_pivots.specs.Laws.Points.{slack_is}
 use Rattle.row_pivots.specs.Laws.Slacks.{by_variables}
 use Rattle.row_pivots.specs.Laws.Sorted.{entry_none, says_or, same_sum, one_entry, range_climbs, as_many, one_more}
 use Rattle.row_pivots.specs.Tables.{Holds, entry_of, line_or, rising}
-use Rattle.seq_model.specs.Dictionaries.{meaning, one, is_in, free_of, Rises}
+use Rattle.seq_model.specs.Dictionaries.{meaning, one, is_in, Rises}
 use Rattle.seq_model.specs.Systems.{row_at, sum_constant, sum_coefficients, IsTaken, Contradiction}
 use Rattle.seq_model.specs.Walks.{constant, entries}
 use Rattle.seq_model.specs.declared.row.Row.{Row}

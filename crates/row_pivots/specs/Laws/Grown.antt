@@ -3,20 +3,18 @@
 --   meaning_more   a row more leaves the meaning of all others
 --   line_more, line_less    a line says the same over one row more, and over one less
 --   grown          the table of the rows and one more
-use Rattle.std.proofs.Common.{◌≡◌, ℕ, zero, suc, ◌+◌, ◌-◌, ◌<◌, ◌≤◌, List, [], ◌∷◌, ◌++◌, length, map, get_or, set, All, refl, ap, ap₂, sym, subst, ◌∙◌, arith, ℤ, pos, ◌+ℤ◌, ◌*ℤ◌, ◌⊎◌, inl, inr, Bool, true, false, length-set, unsigned_abs}
+use Rattle.std.proofs.Common.{◌≡◌, ℕ, zero, suc, ◌+◌, ◌-◌, ◌<◌, ◌≤◌, List, [], ◌∷◌, ◌++◌, length, map, get_or, All, refl, ap, ap₂, sym, subst, ◌∙◌, arith, ℤ, pos, ◌+ℤ◌, ◌*ℤ◌, ◌⊎◌, inl, inr, Bool, true, false, length-set, unsigned_abs}
 use Rattle.std.proofs.lemmas.Bool.{cases_lt}
 use Rattle.std.proofs.lemmas.Bool.Decides.{nat_tests}
 use Rattle.std.proofs.lemmas.Int.{ints}
-use Rattle.std.proofs.lemmas.List.{length-map, length-replicate, length-append}
-use Rattle.std.proofs.lemmas.List.FromFn.{length-range_with_len}
+use Rattle.std.proofs.lemmas.List.{length-replicate}
 use Rattle.std.specs.Int.{◌∣◌}
-use Rattle.std.specs.List.{AllZip, range_with_len}
+use Rattle.std.specs.List.{range_with_len}
 use Rattle.std.specs.Prelude.{nat_lt, slice_set, replicate, if◌then◌else◌}
 use Rattle.integer_laws.specs.Members.{In}
 use Rattle.integer_laws.specs.Laws.Members.{All-in, All-from_in, In-append_left, In-append_right, In-append_cases, In-map_cases}
-use Rattle.integer_laws.specs.Laws.Ring.{expand}
-use Rattle.integer_laws.specs.Vectors.{dot, plus, scale, zeros}
-use Rattle.integer_laws.specs.Laws.Vectors.{dot_comm, dot-plus, dot-scale, dot-set, dot-zeros}
+use Rattle.integer_laws.specs.Vectors.{dot, scale, zeros}
+use Rattle.integer_laws.specs.Laws.Vectors.{dot_comm, dot-plus, dot-scale, dot-zeros}
 use Rattle.row_laws.specs.Laws.Independence.{is_in_member, in_basis, true_or_false}
 use Rattle.row_pivots.specs.Growing.{line_over, row_lines, row_line}
 use Rattle.row_pivots.specs.Laws.Measure.{place_is}
@@ -27,7 +25,7 @@ use Rattle.row_pivots.specs.Laws.Sorted.{says_or}
 use Rattle.row_pivots.specs.Laws.Turned.{unit_says}
 use Rattle.row_pivots.specs.Tables.{AreRowsOf, InRange, Fresh, Holds, line_or, place_of}
 use Rattle.row_pivots.specs.Turns.{unit_line}
-use Rattle.seq_model.specs.Dictionaries.{meaning, one, combination, is_in, Says, DividesAll}
+use Rattle.seq_model.specs.Dictionaries.{meaning, one, combination, is_in, Says}
 use Rattle.seq_model.specs.Systems.{row_at, no_row}
 use Rattle.seq_model.specs.declared.row.Row.{Row}
 

@@ -10,7 +10,7 @@
 --   next_table                     the next table is that of the next basis
 --   bounded                        a walk takes fewer than 2^n steps
 --   falls                          each step makes it less
-use Rattle.std.proofs.Common.{◌≡◌, ◌≢◌, ℕ, zero, suc, ◌+◌, ◌<◌, ◌≤◌, ◌^◌, List, [], ◌∷◌, length, map, get_or, set, All, refl, ap, ap₂, sym, subst, ◌∙◌, arith, ℤ, pos, ◌*ℤ◌, ◌≤ℤ◌, ◌<ℤ◌, ◌⊎◌, inl, inr, Bool, true, false, Option, Some, None, unsigned_abs, int_div, ◌↔◌}
+use Rattle.std.proofs.Common.{◌≡◌, ◌≢◌, ℕ, zero, suc, ◌+◌, ◌<◌, ◌^◌, List, [], ◌∷◌, length, map, get_or, set, All, refl, ap, ap₂, sym, subst, ◌∙◌, arith, ℤ, pos, ◌*ℤ◌, ◌≤ℤ◌, ◌<ℤ◌, ◌⊎◌, inl, inr, Bool, true, false, Option, Some, None, unsigned_abs, int_div, ◌↔◌}
 use Rattle.std.proofs.lemmas.Bool.Decides.{nat_tests}
 use Rattle.std.proofs.lemmas.Int.{ints}
 use Rattle.std.proofs.lemmas.List.Elements.{All-nil, All-cons, All-head, All-tail}
@@ -26,7 +26,7 @@ use Rattle.integer_laws.specs.Members.{In}
 use Rattle.integer_laws.specs.Laws.Order.{mul_positive, cancel_lt}
 use Rattle.integer_laws.specs.Laws.Ring.{expand}
 use Rattle.row_laws.specs.Computed.{leaving, entering, first_positive, line_of}
-use Rattle.row_laws.specs.Laws.Independence.{Climbs, from_zero, true_or_false, equal_is, is_equal}
+use Rattle.row_laws.specs.Laws.Independence.{from_zero, equal_is, is_equal}
 use Rattle.row_laws.specs.Laws.Lines.{line_of_has, member}
 use Rattle.row_laws.specs.Laws.OneForm.{one_form}
 use Rattle.row_laws.specs.Laws.Pivots.{Left, left, Entered, entered, entering_is, below, free_climbs}
@@ -36,14 +36,14 @@ use Rattle.row_pivots.specs.Tables.{AreRowsOf}
 use Rattle.row_pivots.specs.Turns.{entry_at, line_at}
 use Rattle.row_pivots.specs.Laws.Points.{climbs_fresh}
 use Rattle.row_pivots.specs.Laws.Sorted.{table_is_form, rising_members}
-use Rattle.row_pivots.specs.Tables.{Fresh, Holds, Held, rising, sorted_lines}
+use Rattle.row_pivots.specs.Tables.{Fresh, Holds, Held, rising}
 use Rattle.row_pivots.specs.Laws.Turned.{turned, set_members, divides_self}
 use Rattle.row_pivots.specs.Turns.{turned_lines, quotients, IsContent}
 use Rattle.row_pivots.specs.Laws.Values.{free_or_basic}
-use Rattle.seq_model.specs.Dictionaries.{free_of, DividesAll, Form, Has}
-use Rattle.seq_model.specs.Walks.{constant, entries, Leaves, Enters}
+use Rattle.seq_model.specs.Dictionaries.{free_of, Form, Has}
+use Rattle.seq_model.specs.Walks.{entries, Leaves, Enters}
 use Rattle.seq_model.specs.declared.row.Row.{Row}
-use Rattle.row_pivots.specs.Steps.{IsTable, Table, after_entering, after_leaving, content_of, divided, line_content, next_of, pivoted, pivoted_at, pivoted_by, steps_left, table_of, then_one}
+use Rattle.row_pivots.specs.Steps.{IsTable, Table, after_entering, after_leaving, content_of, line_content, next_of, pivoted, steps_left, table_of, then_one}
 use Rattle.row_pivots.specs.Tables.{place_of}
 
 -- ---- the content

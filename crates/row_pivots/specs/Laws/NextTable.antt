@@ -1,10 +1,10 @@
 -- Whatever table a program makes of the next basis, it is the one that the measure speaks of.
 --
 --   seen_next     a table of the basis in which the least-numbered variables were swapped is the next one
-use Rattle.std.proofs.Common.{◌≡◌, ◌≢◌, ℕ, ◌+◌, List, length, refl, ap, sym, subst, ◌∙◌, arith, ℤ, pos, ◌⊎◌, inl, inr, Option, Some, None, ◌↔◌}
+use Rattle.std.proofs.Common.{◌≡◌, ◌≢◌, ℕ, ◌+◌, List, length, ap, sym, subst, ◌∙◌, arith, ℤ, ◌⊎◌, Option, Some, None, ◌↔◌}
 use Rattle.std.proofs.lemmas.Int.{ints}
 use Rattle.integer_laws.specs.Members.{In}
-use Rattle.row_laws.specs.Computed.{leaving, entering, first_positive, line_of}
+use Rattle.row_laws.specs.Computed.{leaving, entering, first_positive}
 use Rattle.row_laws.specs.Laws.Independence.{from_zero}
 use Rattle.row_laws.specs.Laws.Lines.{line_of_has}
 use Rattle.row_laws.specs.Laws.Pivots.{Left, left, Entered, entered, entering_is, free_climbs, rising_same, same_line}
@@ -12,7 +12,7 @@ use Rattle.row_pivots.specs.Laws.Measure.{NextStep, made, made_moves, one_table}
 use Rattle.row_pivots.specs.Steps.{Table, IsTable, table_of, pivoted, after_leaving, after_entering, next_of}
 use Rattle.row_pivots.specs.Tables.{AreRowsOf}
 use Rattle.seq_model.specs.Dictionaries.{free_of, Form}
-use Rattle.seq_model.specs.Walks.{constant, entries, Leaves, Enters}
+use Rattle.seq_model.specs.Walks.{entries, Leaves, Enters}
 use Rattle.seq_model.specs.declared.row.Row.{Row}
 
 leaving_is : (vars : ℕ) (rows : List Row) (basis : List ℕ) (f : Form vars rows basis) (out : ℕ) → Leaves basis f.lines out → leaving basis f.lines ≡ Some out

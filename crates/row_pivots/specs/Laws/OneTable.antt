@@ -2,17 +2,15 @@
 --
 --   one_held      two tables over the same rows, with the same variables at the same places, are the same
 --   swapped_back  a second pivot at the same places puts the variables back
-use Rattle.std.proofs.Common.{◌≡◌, ℕ, zero, suc, ◌+◌, ◌<◌, List, [], ◌∷◌, length, map, get_or, set, drop, refl, ap, ap₂, sym, subst, ◌∙◌, arith, ℤ, pos, inl, inr, Bool, true, false}
+use Rattle.std.proofs.Common.{◌≡◌, ℕ, zero, suc, ◌+◌, List, [], ◌∷◌, length, map, get_or, set, drop, refl, ap, ap₂, sym, subst, ◌∙◌, arith, ℤ, inl, inr, Bool, false}
 use Rattle.std.proofs.lemmas.Bool.Decides.{nat_tests}
 use Rattle.std.specs.Prelude.{nat_eq, if◌then◌else◌}
 use Rattle.integer_laws.specs.Members.{In}
 use Rattle.row_laws.specs.Laws.Independence.{is_equal}
 use Rattle.row_laws.specs.Laws.OneForm.{one_form}
-use Rattle.row_pivots.specs.Laws.Pivoting.{Line}
 use Rattle.row_pivots.specs.Laws.Sorted.{table_is_form, rising_members, free_member, says_or, says_long}
 use Rattle.row_pivots.specs.Tables.{Fresh, Holds, Held, rising, sorted_line, sorted_lines, line_or, entry_of}
-use Rattle.seq_model.specs.Dictionaries.{free_of, Form}
-use Rattle.seq_model.specs.Walks.{constant, entries}
+use Rattle.seq_model.specs.Dictionaries.{free_of}
 use Rattle.seq_model.specs.declared.row.Row.{Row}
 
 differs : (x y : ℕ) → (x ≡ y → ⊥) → nat_eq x y ≡ false

@@ -4,19 +4,17 @@
 --   pivoted_line d ys k zs         the line zs of a variable that stays, where ys is the line of what leaves and k the place of what
 --                                  enters, over d times the entry of ys there
 --   says_divided                   lines that say it still do where all numbers are divided by a common divisor, of either sign
-use Rattle.std.proofs.Common.{◌≡◌, ℕ, zero, suc, ◌+◌, ◌-◌, ◌<◌, ◌≤◌, max, List, [], ◌∷◌, length, map, get_or, set, All, refl, ap, ap₂, sym, subst, ◌∙◌, arith, ℤ, pos, neg_ℤ, ◌+ℤ◌, ◌-ℤ◌, ◌*ℤ◌, ◌≤ℤ◌, ◌<ℤ◌, ◌⊎◌, inl, inr, Bool, true, false, length-set}
+use Rattle.std.proofs.Common.{◌≡◌, ℕ, zero, suc, ◌+◌, ◌-◌, ◌<◌, ◌≤◌, max, List, [], ◌∷◌, length, map, get_or, set, refl, ap, ap₂, sym, ◌∙◌, arith, ℤ, pos, neg_ℤ, ◌+ℤ◌, ◌-ℤ◌, ◌*ℤ◌, ◌⊎◌, inl, inr, Bool, true, false, length-set}
 use Rattle.std.proofs.lemmas.Bool.Decides.{nat_tests}
 use Rattle.std.proofs.lemmas.Int.{ints}
 use Rattle.std.proofs.lemmas.List.{length-map, length-replicate}
-use Rattle.std.specs.List.{AllZip}
 use Rattle.std.specs.Prelude.{nat_lt, slice_set, replicate, if◌then◌else◌}
 use Rattle.integer_laws.specs.Members.{In}
 use Rattle.integer_laws.specs.Laws.Members.{In-map_cases}
 use Rattle.integer_laws.specs.Laws.Order.{add_same, mul_same, same_from}
 use Rattle.integer_laws.specs.Laws.Ring.{expand}
-use Rattle.integer_laws.specs.Vectors.{dot, plus, scale, combined}
+use Rattle.integer_laws.specs.Vectors.{dot, scale, combined}
 use Rattle.integer_laws.specs.Laws.Vectors.{dot-scale, dot-combined, dot-set, get_or-plus, get_or-scale, get_or-combined, length-scale, length-plus, length-combined}
-use Rattle.row_laws.specs.Laws.Independence.{true_or_false}
 use Rattle.row_laws.specs.Laws.Kernel.{cancel_factor}
 use Rattle.row_laws.specs.Laws.OneForm.{list_same}
 use Rattle.seq_model.specs.Dictionaries.{meaning, one, combination, Says}

@@ -3,7 +3,7 @@
 --   point vars basis lines          the value of each variable, times d: its constant, 0 where it is free
 --   slack_is                        what the slack of a row means
 --   point_meets                     the point meets the rows
-use Rattle.std.proofs.Common.{◌≡◌, ℕ, zero, suc, ◌+◌, ◌-◌, ◌<◌, ◌≤◌, List, [], ◌∷◌, length, map, get_or, set, All, refl, ap, ap₂, sym, subst, ◌∙◌, arith, ℤ, pos, ◌+ℤ◌, ◌*ℤ◌, ◌≤ℤ◌, ◌<ℤ◌, ◌⊎◌, inl, inr, Bool, true, false}
+use Rattle.std.proofs.Common.{◌≡◌, ℕ, zero, suc, ◌+◌, ◌-◌, ◌<◌, ◌≤◌, List, [], ◌∷◌, length, get_or, All, refl, ap, sym, subst, ◌∙◌, arith, ℤ, pos, ◌+ℤ◌, ◌*ℤ◌, ◌≤ℤ◌, ◌<ℤ◌, ◌⊎◌, inl, inr, Bool, false}
 use Rattle.std.proofs.lemmas.Bool.{cases_lt}
 use Rattle.std.proofs.lemmas.Bool.Decides.{nat_tests}
 use Rattle.std.proofs.lemmas.Int.{ints}
@@ -12,17 +12,15 @@ use Rattle.std.proofs.lemmas.List.FromFn.{length-range_with_len}
 use Rattle.std.specs.List.{range_with_len}
 use Rattle.std.specs.Prelude.{nat_lt, nat_eq, slice_set, replicate, if◌then◌else◌}
 use Rattle.integer_laws.specs.Members.{In}
-use Rattle.integer_laws.specs.Laws.Members.{In-map_cases, All-from_in}
 use Rattle.integer_laws.specs.Laws.Order.{mul_nonneg, cancel_le}
 use Rattle.integer_laws.specs.Laws.Ring.{expand}
-use Rattle.integer_laws.specs.Vectors.{dot, scale, unit, zeros}
+use Rattle.integer_laws.specs.Vectors.{dot, scale}
 use Rattle.integer_laws.specs.Laws.Vectors.{dot_comm, dot-scale, dot-unit, get_or-scale, length-scale}
 use Rattle.row_laws.specs.Laws.Independence.{variable_is, from_zero, past_the_end, Climbs}
 use Rattle.row_laws.specs.Laws.OneForm.{any_default, list_same}
 use Rattle.row_laws.specs.Laws.Pivots.{below}
 use Rattle.row_pivots.specs.Laws.Bland.{not_basic}
-use Rattle.row_pivots.specs.Laws.Pivoting.{get_or-In, get_or-map}
-use Rattle.row_pivots.specs.Tables.{AreRowsOf}
+use Rattle.row_pivots.specs.Laws.Pivoting.{get_or-map}
 use Rattle.row_pivots.specs.Laws.Sorted.{line_is}
 use Rattle.row_pivots.specs.Tables.{line_or, Fresh}
 use Rattle.row_pivots.specs.Laws.Values.{FormValues, values, has_line, free_or_basic}

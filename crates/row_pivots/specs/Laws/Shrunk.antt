@@ -3,9 +3,9 @@
 --   Removed        what is left of the basic variables and of the lines once one has gone
 --   removed        the last one takes the place of what goes
 --   shrunk         the table of the rows without the last one
-use Rattle.std.proofs.Common.{◌≡◌, ◌≢◌, ℕ, zero, suc, ◌+◌, ◌-◌, ◌<◌, ◌≤◌, List, [], ◌∷◌, ◌++◌, length, map, get_or, set, take, All, refl, ap, ap₂, sym, subst, ◌∙◌, arith, ℤ, pos, ◌≤ℤ◌, ◌⊎◌, inl, inr, int_div}
+use Rattle.std.proofs.Common.{◌≡◌, ◌≢◌, ℕ, zero, suc, ◌+◌, ◌-◌, ◌<◌, ◌≤◌, List, [], ◌∷◌, ◌++◌, length, map, get_or, set, take, refl, ap, sym, subst, ◌∙◌, arith, ℤ, pos, ◌≤ℤ◌, ◌⊎◌, inl, inr, int_div}
 use Rattle.std.proofs.lemmas.Bool.{cases_lt}
-use Rattle.std.specs.List.{AllZip, swap_remove}
+use Rattle.std.specs.List.{swap_remove}
 use Rattle.integer_laws.specs.Members.{In}
 use Rattle.integer_laws.specs.Laws.Members.{All-in, All-from_in, In-append_left, In-append_right, In-append_cases}
 use Rattle.row_pivots.specs.Laws.Grown.{at_end, length-more, line_less}

@@ -1,12 +1,11 @@
 -- The table of all slacks: the rows themselves.
 --
 --   slack_table     with the denominator 1, the slacks basic and the variables free
-use Rattle.std.proofs.Common.{◌≡◌, ◌≢◌, ℕ, zero, suc, ◌+◌, ◌<◌, ◌≤◌, List, [], ◌∷◌, length, map, get_or, replicate, set, refl, ap, ap₂, sym, subst, ◌∙◌, arith, ℤ, pos, ◌+ℤ◌, ◌*ℤ◌, ◌⊎◌, inl, inr, All, length-set}
+use Rattle.std.proofs.Common.{◌≡◌, ℕ, zero, suc, ◌+◌, ◌<◌, ◌≤◌, List, [], ◌∷◌, length, map, get_or, replicate, refl, ap, sym, subst, ◌∙◌, arith, ℤ, pos, ◌+ℤ◌, ◌*ℤ◌, ◌⊎◌, inl, inr}
 use Rattle.std.proofs.lemmas.Bool.{cases_lt}
 use Rattle.std.proofs.lemmas.Int.{ints}
-use Rattle.std.proofs.lemmas.List.{length-map, length-replicate, get_or-set_same, get_or-set_other}
+use Rattle.std.proofs.lemmas.List.{length-replicate, get_or-set_same, get_or-set_other}
 use Rattle.std.proofs.lemmas.List.FromFn.{length-range_with_len}
-use Rattle.std.specs.Int.{◌∣◌}
 use Rattle.std.specs.List.{AllZip, range_with_len}
 use Rattle.std.proofs.Math.Nat.{eq-one_of_dvd-one}
 use Rattle.integer_laws.specs.Members.{In}
@@ -19,9 +18,9 @@ use Rattle.row_pivots.specs.Laws.Pivoting.{Line, line_from, column}
 use Rattle.row_pivots.specs.Tables.{AreRowsOf}
 use Rattle.row_pivots.specs.Laws.Points.{slack_is, climbs_fresh}
 use Rattle.row_pivots.specs.Laws.Sorted.{range_climbs}
-use Rattle.row_pivots.specs.Tables.{Fresh, Holds}
-use Rattle.seq_model.specs.Dictionaries.{meaning, one, Says, DividesAll}
-use Rattle.seq_model.specs.Systems.{row_at, no_row}
+use Rattle.row_pivots.specs.Tables.{Holds}
+use Rattle.seq_model.specs.Dictionaries.{meaning, one}
+use Rattle.seq_model.specs.Systems.{no_row}
 use Rattle.seq_model.specs.declared.row.Row.{Row}
 use Rattle.row_pivots.specs.Ends.{slack_lines}
 

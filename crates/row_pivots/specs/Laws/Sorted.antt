@@ -8,8 +8,7 @@
 --   Holds vars rows d basic free lines     a table: each variable basic or free, once; the lines say the basic ones; no number above 1 divides all
 --   Held vars rows d basic free lines      the form of the rising variables, with this denominator and these numbers
 --   table_is_form                   a table is this form
-use Rattle.std.proofs.Common.{◌≡◌, ℕ, zero, suc, ◌+◌, ◌<◌, ◌≤◌, List, [], ◌∷◌, length, map, get_or, set, All, refl, ap, ap₂, sym, subst, ◌∙◌, arith, ℤ, pos, ◌+ℤ◌, ◌*ℤ◌, ◌≤ℤ◌, ◌⊎◌, inl, inr, Bool, true, false, ◌||◌, unsigned_abs, ◌↔◌}
-use Rattle.std.proofs.lemmas.Bool.Decides.{nat_tests}
+use Rattle.std.proofs.Common.{◌≡◌, ℕ, zero, suc, ◌+◌, ◌<◌, List, [], ◌∷◌, length, map, get_or, All, refl, ap, ap₂, sym, subst, ◌∙◌, arith, ℤ, pos, ◌+ℤ◌, ◌*ℤ◌, ◌⊎◌, inl, inr, Bool, true, false, ◌||◌, unsigned_abs, ◌↔◌}
 use Rattle.std.proofs.lemmas.Int.{ints}
 use Rattle.std.proofs.lemmas.List.{length-map}
 use Rattle.std.specs.Int.{◌∣◌}
@@ -23,10 +22,9 @@ use Rattle.integer_laws.specs.Vectors.{dot}
 use Rattle.row_laws.specs.Laws.Independence.{true_or_false, equal_is, is_equal, in_basis, is_in_member, In-filter, In-range, Climbs}
 use Rattle.row_laws.specs.Laws.Pivots.{below, of_filter, filter_climbs, to_rises, free_climbs}
 use Rattle.row_pivots.specs.Laws.Pivoting.{Line, line_from, line_each, column}
-use Rattle.row_pivots.specs.Tables.{AreRowsOf, InRange}
+use Rattle.row_pivots.specs.Tables.{InRange}
 use Rattle.row_pivots.specs.Laws.Values.{free_or_basic}
-use Rattle.seq_model.specs.Dictionaries.{meaning, one, combination, is_in, free_of, Says, DividesAll, Form, Has}
-use Rattle.seq_model.specs.Walks.{constant, entries}
+use Rattle.seq_model.specs.Dictionaries.{meaning, one, is_in, free_of, Says, DividesAll, Has}
 use Rattle.seq_model.specs.declared.row.Row.{Row}
 use Rattle.row_pivots.specs.Tables.{Fresh, Held, Holds, entry_of, line_or, rising, sorted_line, sorted_lines}
 

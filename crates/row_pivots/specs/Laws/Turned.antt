@@ -6,7 +6,7 @@
 --   quotients g xs                  all numbers divided
 --   IsContent g d lines             g has just the divisors that d and all numbers of the lines have
 --   turned                          what is pivoted and divided by its content, with the sign of the entry, is the table of the new basis
-use Rattle.std.proofs.Common.{◌≡◌, ◌≢◌, ℕ, zero, suc, ◌+◌, ◌*◌, ◌<◌, ◌≤◌, List, [], ◌∷◌, length, map, get_or, set, All, refl, ap, ap₂, sym, subst, ◌∙◌, arith, ℤ, pos, negsuc, neg_ℤ, ◌+ℤ◌, ◌-ℤ◌, ◌*ℤ◌, ◌≤ℤ◌, ◌<ℤ◌, ◌⊎◌, inl, inr, unsigned_abs, int_div, ◌↔◌, mul-one, length-set}
+use Rattle.std.proofs.Common.{◌≡◌, ◌≢◌, ℕ, zero, suc, ◌+◌, ◌*◌, ◌<◌, List, [], ◌∷◌, length, map, get_or, set, All, refl, ap, ap₂, sym, subst, ◌∙◌, arith, ℤ, pos, negsuc, ◌+ℤ◌, ◌*ℤ◌, ◌≤ℤ◌, ◌⊎◌, inl, inr, unsigned_abs, int_div, ◌↔◌, mul-one, length-set}
 use Rattle.std.proofs.lemmas.Int.{ints, unsigned_abs-mul}
 use Rattle.std.proofs.lemmas.List.{length-map, length-replicate}
 use Rattle.std.proofs.Math.Nat.{dvd-mul_right, mul-dvd-mul_left, eq-one_of_dvd-one, dvd_of_mul-dvd-mul_left}
@@ -14,13 +14,11 @@ use Rattle.std.specs.Int.{◌∣◌}
 use Rattle.integer_laws.specs.Laws.Divisors.{exact_quotient}
 use Rattle.integer_laws.specs.Members.{In}
 use Rattle.integer_laws.specs.Laws.Members.{In-map, All-in, All-from_in}
-use Rattle.integer_laws.specs.Laws.Ring.{expand}
 use Rattle.integer_laws.specs.Vectors.{dot, scale, zeros}
 use Rattle.integer_laws.specs.Laws.Vectors.{dot-set, dot-zeros}
-use Rattle.row_laws.specs.Laws.Kernel.{cancel_factor}
 use Rattle.row_pivots.specs.Laws.Pivoting.{Line, line_from, column, all_stay, says_set, says_at, says_divided, get_or-In, get_or-map, range_set, In-set, long_columns}
 use Rattle.row_pivots.specs.Tables.{AreRowsOf, InRange}
-use Rattle.row_pivots.specs.Turns.{entry_at, line_at, pivoted_line}
+use Rattle.row_pivots.specs.Turns.{entry_at, line_at}
 use Rattle.row_pivots.specs.Tables.{Fresh, Holds}
 use Rattle.seq_model.specs.Dictionaries.{meaning, one, Says, DividesAll}
 use Rattle.seq_model.specs.declared.row.Row.{Row}

@@ -6,18 +6,17 @@
 --   says_has                     what a form says of the line that a basic variable has
 --   has_line                     a basic variable has a line
 --   free_or_basic                each variable is basic or free
-use Rattle.std.proofs.Common.{◌≡◌, ℕ, zero, suc, ◌+◌, ◌<◌, ◌≤◌, List, [], ◌∷◌, length, map, get_or, refl, ap, sym, subst, ◌∙◌, arith, ℤ, pos, negsuc, neg_ℤ, ◌+ℤ◌, ◌*ℤ◌, ◌≤ℤ◌, ◌<ℤ◌, ◌⊎◌, inl, inr, true, false}
+use Rattle.std.proofs.Common.{◌≡◌, ℕ, zero, suc, ◌+◌, ◌<◌, List, [], ◌∷◌, length, map, refl, ap, sym, ◌∙◌, arith, ℤ, pos, negsuc, neg_ℤ, ◌*ℤ◌, ◌≤ℤ◌, ◌<ℤ◌, ◌⊎◌, inl, inr, true, false}
 use Rattle.std.proofs.lemmas.Int.{ints, by_lt_z}
 use Rattle.std.proofs.lemmas.List.{length-map}
 use Rattle.std.specs.Prelude.{not}
 use Rattle.std.specs.List.{range_with_len}
 use Rattle.integer_laws.specs.Members.{In}
-use Rattle.integer_laws.specs.Laws.Members.{In-map, In-map_cases}
-use Rattle.integer_laws.specs.Laws.Ring.{expand}
+use Rattle.integer_laws.specs.Laws.Members.{In-map}
 use Rattle.integer_laws.specs.Vectors.{dot, scale}
 use Rattle.integer_laws.specs.Laws.Vectors.{dot_comm, dot-scale}
-use Rattle.row_laws.specs.Laws.Independence.{vectors_of, combine_one, only_zeros, few_free, true_or_false, in_basis, is_in_member, In-filter, In-range}
-use Rattle.row_laws.specs.Laws.Kernel.{Kernel, kernel, zero_or_not}
+use Rattle.row_laws.specs.Laws.Independence.{vectors_of, combine_one, only_zeros, few_free, true_or_false, in_basis, In-filter, In-range}
+use Rattle.row_laws.specs.Laws.Kernel.{Kernel, kernel}
 use Rattle.seq_model.specs.Dictionaries.{meaning, one, combination, is_in, free_of, Says, Form, Has}
 use Rattle.seq_model.specs.declared.row.Row.{Row}
 use Rattle.seq_model.specs.Walks.{constant}

@@ -2,23 +2,18 @@
 --
 --   Small x        x is below 2^62 in size
 --   wide_row         the basis is wide at a variable of it just where the denominator and the numbers of its line aren't all small
-use Rattle.std.proofs.Common.{◌≡◌, ℕ, zero, suc, ◌+◌, ◌<◌, ◌≤◌, ◌^◌, List, [], ◌∷◌, length, map, get_or, All, Contains, refl, ap, sym, subst, ◌∙◌, arith, ℤ, pos, ◌⊎◌, inl, inr, Bool, true, false, unsigned_abs, ◌↔◌}
+use Rattle.std.proofs.Common.{◌≡◌, ℕ, suc, ◌+◌, ◌<◌, ◌≤◌, ◌^◌, List, [], ◌∷◌, length, map, All, refl, ap, sym, subst, ◌∙◌, arith, ℤ, pos, ◌⊎◌, inl, inr, Bool, true, false, unsigned_abs, ◌↔◌}
 use Rattle.std.proofs.lemmas.Bool.{cases_lt}
-use Rattle.std.proofs.lemmas.Bool.Decides.{nat_tests}
 use Rattle.std.proofs.lemmas.List.Elements.{All-nil, All-cons}
 use Rattle.std.specs.Prelude.{nat_eq, if◌then◌else◌}
 use Rattle.integer_laws.specs.Members.{In}
 use Rattle.integer_laws.specs.Laws.Members.{In-from_contains, Contains-from_in, All-in, In-map, In-map_cases}
-use Rattle.row_laws.specs.Laws.Independence.{Climbs, from_zero, true_or_false}
+use Rattle.row_laws.specs.Laws.Independence.{from_zero}
 use Rattle.row_laws.specs.Laws.Lines.{has_same, member}
 use Rattle.row_laws.specs.Laws.OneForm.{one_form}
-use Rattle.row_laws.specs.Laws.Pivots.{below, free_climbs}
-use Rattle.row_pivots.specs.Laws.Bland.{not_basic}
-use Rattle.row_pivots.specs.Laws.Pivoting.{Line}
 use Rattle.row_pivots.specs.Laws.Sorted.{table_is_form, entry_is, rising_members, free_member, says_or, has_of}
-use Rattle.row_pivots.specs.Tables.{Fresh, Holds, Held, rising, sorted_line, sorted_lines, line_or, entry_of}
-use Rattle.seq_model.specs.Dictionaries.{free_of, Form, Has, WideAt}
-use Rattle.seq_model.specs.Walks.{constant, entries}
+use Rattle.row_pivots.specs.Tables.{Fresh, Holds, Held, rising, sorted_line, line_or, entry_of}
+use Rattle.seq_model.specs.Dictionaries.{free_of, Has, WideAt}
 use Rattle.seq_model.specs.declared.row.Row.{Row}
 use Rattle.row_pivots.specs.Ends.{Small}
 

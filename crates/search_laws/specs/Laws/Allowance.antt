@@ -52,8 +52,6 @@ allowance job s path = 2 ^ over_pairs (pair_open path) (length job.objects) * s 
 abbrev pub Fair : List Choice → Type 0
 Fair path = (i j : ℕ) → is_before path i j ≡ true → is_before path j i ≡ true → ⊥
 
--- ---- tests
-
 -- ---- what is on a path
 -- one more choice at the end
 or_none : (a : Bool) → (a || false) ≡ a

@@ -1,5 +1,5 @@
-use Rattle.std.proofs.Common.{◌≡◌, ◌≤◌, ◌<◌, ◌+◌, ◌*◌, ◌^◌, arith, refl, sym, subst, ◌∙◌, rules, FitsSigned, ◌<ℤ◌, ◌≤ℤ◌, pos, unsigned_abs}
-use Rattle.std.proofs.lemmas.Int.{ints, to_z-of_z}
+use Rattle.std.proofs.Common.{◌≤◌, ◌+◌, ◌*◌, ◌^◌, arith, refl, sym, subst, ◌∙◌, rules, FitsSigned, unsigned_abs}
+use Rattle.std.proofs.lemmas.Int.{to_z-of_z}
 use Rattle.bound_sums.proofs.BoundLaws.{step, taken, breaks_sum, breaks_constant, contradicts}
 use Rattle.bound_sums.proofs.breaches.first_breach.Goals as goal
 

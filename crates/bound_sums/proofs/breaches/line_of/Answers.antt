@@ -1,4 +1,4 @@
-use Rattle.std.proofs.Common.{◌≡◌, ◌+◌, ◌-◌, ℤ, pos, length, get_or, refl, sym, ap, subst, arith, rules, FitsSigned}
+use Rattle.std.proofs.Common.{◌≡◌, ◌+◌, ◌-◌, pos, length, get_or, refl, sym, subst, arith, rules, FitsSigned}
 use Rattle.std.proofs.lemmas.Int.{to_z-of_z}
 use Rattle.bound_sums.proofs.RowLaws.{room_line, side_line, no_line}
 use Rattle.bound_sums.specs.Bounding.{IsLine}

@@ -1,4 +1,4 @@
-use Rattle.std.proofs.Common.{arith, refl, rules, FitsSigned}
+use Rattle.std.proofs.Common.{refl, rules, FitsSigned}
 use Rattle.bound_sums.proofs.Settled.{settled}
 use Rattle.bound_sums.proofs.Sums.{bound_added}
 use Rattle.bound_sums.proofs.rows.add_line.Goals as goal

@@ -1,4 +1,3 @@
-use Rattle.seq_model.specs.declared.tree.Contact.{Contact}
 use Rattle.cert_checker.specs.Kept.{HasSidesAt}
 use Rattle.cert_checker.specs.declared.kept.Met.{Met}
 use Rattle.cert_checker.proofs.Tables.{remembered}

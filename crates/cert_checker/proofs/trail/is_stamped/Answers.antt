@@ -1,4 +1,3 @@
-use Rattle.std.proofs.Common.{refl}
 use Rattle.cert_checker.proofs.Stamps.{stamp_over, stamp_decides}
 use Rattle.cert_checker.proofs.trail.is_stamped.Goals as goal
 

@@ -1,4 +1,4 @@
-use Rattle.std.proofs.Common.{◌≤◌, [], ◌∷◌, length, refl, ap, arith, lit≤}
+use Rattle.std.proofs.Common.{◌≤◌, length, refl, ap, arith, lit≤}
 use Rattle.examples_model.proofs.trees.trees_by_their_counts.Goals as goal
 
 pub returns-clause-whole : goal.returns-clause-whole

@@ -1,4 +1,4 @@
-use Rattle.std.proofs.Common.{◌≡◌, ◌≤◌, ◌∙◌, [], ◌∷◌, sym, subst, arith, rules, FitsSigned, w64}
+use Rattle.std.proofs.Common.{◌≡◌, ◌≤◌, ◌∙◌, sym, subst, arith, rules, FitsSigned, w64}
 use Rattle.std.proofs.Math.Facts.{to_z-of_z}
 use Rattle.seq_model.specs.Bands.{height_of, band_count}
 use Rattle.seq_model.specs.Scenes.{Spans}

@@ -1,4 +1,4 @@
-use Rattle.std.proofs.Common.{◌≡◌, ◌≤◌, ◌∙◌, ap, sym, subst, arith, rules}
+use Rattle.std.proofs.Common.{◌≡◌, ◌≤◌, ◌∙◌, ap, sym, subst, arith}
 use Rattle.plan_laws.specs.Inside.{region_at}
 use Rattle.plate_shrink.proofs.Rooms.{moved_found, narrow_there, no_lower, shift_near}
 use Rattle.plate_shrink.specs.Edges.{shift_of}

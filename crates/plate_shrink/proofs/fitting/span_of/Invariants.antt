@@ -1,6 +1,5 @@
 use Rattle.std.proofs.Common.{◌≡◌, get_or, take}
 use Rattle.seq_model.specs.Jobs.{no_place}
-use Rattle.seq_model.specs.declared.plan.Place.{Place}
 use Rattle.plate_shrink.specs.Edges.{IsNearEdges, edges_of, edges_with}
 use Rattle.plate_shrink.proofs.fitting.span_of.Given as goal
 

@@ -4,7 +4,7 @@ use Rattle.run_files.specs.Files.{name_in}
 use Rattle.run_files.specs.Plans.{IsOnlyBy}
 use Rattle.run_files.specs.Stops.{Explains}
 use Rattle.run_files.specs.declared.stop.NamedFile.TheVariants.{Plan}
-use Rattle.run_files.proofs.ReadLaws.{unread, unstated}
+use Rattle.run_files.proofs.ReadLaws.{unread}
 use Rattle.run_files.proofs.Stated.{one_named}
 use Rattle.run_files.proofs.plans.load_named_plan.Goals as goal
 

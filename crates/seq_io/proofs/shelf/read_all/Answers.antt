@@ -1,4 +1,4 @@
-use Rattle.std.proofs.Common.{◌≡◌, false, rules, arith}
+use Rattle.std.proofs.Common.{rules, arith}
 use Rattle.seq_io.proofs.Pieces.{consumes_more, counted_none, not_broken}
 use Rattle.seq_io.proofs.shelf.read_all.Goals as goal
 

@@ -1,4 +1,4 @@
-use Rattle.std.proofs.Common.{◌≡◌, ◌≤◌, ◌<◌, length, get_or, refl, arith}
+use Rattle.std.proofs.Common.{◌≤◌, ◌<◌, length, refl, arith}
 use Rattle.cert_checker.proofs.Trails.{fit_cut, rows_of_cut, all_kept, fit_same}
 use Rattle.cert_checker.proofs.trail.Trail.cut.Goals as goal
 

@@ -1,7 +1,5 @@
-use Rattle.std.proofs.Common.{◌≡◌, ◌<◌, ◌++◌, ◌∷◌, [], length, arith, refl, sym, ap, subst, ◌∙◌}
-use Rattle.std.specs.Vec.{vec_len, vec_capacity}
+use Rattle.std.proofs.Common.{◌≡◌, ◌++◌, ◌∷◌, [], length, arith, refl, ap, ◌∙◌}
 use Rattle.cert_checker.proofs.Marks.{side_count-le}
-use Rattle.cert_checker.specs.Trails.{HasRows, IsFit, IsRowFor}
 use Rattle.cert_checker.proofs.Trails.{fit_side, rows_by_side}
 use Rattle.cert_checker.proofs.trail.Trail.go_side.Goals as goal
 
