@@ -6,7 +6,7 @@ ghost use Rattle.decimal_lengths.specs.Computed.{length_of};
 ghost use Rattle.decimal_lengths.specs.Lengths.{IsReadAs};
 ghost use Rattle.decimal_lengths.specs.Refusals.{Refuses, Answers};
 
-use crate::Decimal;
+use crate::DecimalError;
 use crate::scanning::scan;
 use crate::sizing::size;
 
@@ -16,16 +16,16 @@ const MOST_BYTES: usize = 64;
 ///
 /// A decimal is an optional sign, digits with at most one point and at least one digit, and optionally `e` or `E` with
 /// an optional sign and at least one digit.
-pub fn read_um(bytes: &[u8]) -> Result<i64, Decimal>
+pub fn read_um(bytes: &[u8]) -> Result<i64, DecimalError>
     ensures length { (um : ℤ) → (result ≡ Ok um) ↔ IsReadAs bytes.now um }
     ensures value { result_ok result ≡ length_of bytes.now }
-    ensures refused { (cause : Decimal) → (result ≡ Err cause) ↔ Refuses bytes.now cause }
+    ensures refused { (cause : DecimalError) → (result ≡ Err cause) ↔ Refuses bytes.now cause }
 {
     if bytes.is_empty() {
-        return Err(Decimal::Empty);
+        return Err(DecimalError::Empty);
     }
     if bytes.len() > MOST_BYTES {
-        return Err(Decimal::TooLong);
+        return Err(DecimalError::TooLong);
     }
     read_short(bytes)
 }
@@ -35,14 +35,14 @@ pub fn each_length()
     ensures { (bytes : List ℕ) (um : ℤ) → (length_of bytes ≡ Some um) ↔ IsReadAs bytes um }
 {}
 
-fn read_short(bytes: &[u8]) -> Result<i64, Decimal>
+fn read_short(bytes: &[u8]) -> Result<i64, DecimalError>
     requires some { 0 < length bytes.now }
     requires short { length bytes.now ≤ 64 }
     ensures { Answers bytes.now result }
 {
     let number = scan(bytes)?;
     let Some(um) = size(&number) else {
-        return Err(Decimal::TooFar);
+        return Err(DecimalError::TooFar);
     };
     Ok(with_sign(number.negative, um))
 }
