@@ -46,4 +46,4 @@ audit_text parts places (Verdicts.Stray k) = number_line (codes "audit stray ") 
 audit_text parts places (Verdicts.Absent object) = number_line (codes "audit absent ") (pos object)
 audit_text parts places (Verdicts.OffPlate k) = off_line k (object_of places k)
 audit_text parts places (Verdicts.Collides h) =
-    hit_line (object_of places h.earlier) (object_of places h.later) h.earlier_band h.later_band h.part (name_of parts h.part)
+    hit_line (object_of places h.earlier) (object_of places h.later) h.c h.b h.part (name_of parts h.part)

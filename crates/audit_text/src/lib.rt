@@ -76,14 +76,14 @@ fn put_part(to: &mut Vec<u8>, part: u32, name: &str) -> Result<(), AllocError>
 fn put_hit(to: &mut Vec<u8>, parts: &[Part], places: &[Place], hit: Hit) -> Result<(), AllocError>
     ensures { OnOk result (to.new.items ≡ to.old.items ++ hit_line
         (object_of places.now hit.earlier) (object_of places.now hit.later)
-        hit.earlier_band hit.later_band hit.part (name_of parts.now hit.part)) }
+        hit.c hit.b hit.part (name_of parts.now hit.part)) }
 {
     put_pair(
         to,
         object_of(places, hit.earlier),
         object_of(places, hit.later),
     )?;
-    put_bands(to, hit.earlier_band, hit.later_band)?;
+    put_bands(to, hit.c, hit.b)?;
     put_part(to, hit.part, name_of(parts, hit.part))
 }
 

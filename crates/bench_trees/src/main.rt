@@ -3,7 +3,7 @@
 //! runs it. Nothing is promised here but that the calls may be made.
 #![tactic(auto)]
 
-use cert_text::{BlockError, Head, Kind, read_tree, write_tree};
+use cert_text::{CertRead, Head, Kind, read_tree, write_tree};
 use owned_lists::Items;
 use seq_model::{Contact, Mult, Node, Tree};
 use std::alloc::{AllocError, Global};
@@ -56,7 +56,7 @@ fn chain(alloc: Global, splits: u32) -> Result<Vec<u8>, AllocError> {
     Ok(text)
 }
 
-fn nodes_of(alloc: Global, text: &[u8], kind: Kind) -> Result<usize, BlockError> {
+fn nodes_of(alloc: Global, text: &[u8], kind: Kind) -> Result<usize, CertRead> {
     Ok(read_tree(alloc, text, kind)?.1.nodes.len())
 }
 

@@ -3,7 +3,7 @@ use Rattle.std.proofs.Common.{◌≡◌, ℕ, suc, ◌+◌, ◌-◌, ◌≤◌, 
 use Rattle.std.proofs.lemmas.List.{take-append-le, take-take, take_all, length-take-le, drop_more, reverse-append}
 use Rattle.seq_model.specs.declared.tree.Choice.{Choice}
 use Rattle.cert_checker.specs.Waits.{also_each, waiting, AreNested}
-use Rattle.cert_checker.specs.Prepared.{range_of}
+use Rattle.cert_checker.specs.Kept.{range_of}
 use Rattle.cert_checker.specs.declared.frames.Frame.{Frame}
 
 pub range_first : (table : List Choice) (from to : ℕ) (d : Choice) → from < to → to ≤ length table → range_of table from to ≡ get_or table from d ∷ range_of table (from + 1) to

@@ -7,7 +7,7 @@ use Rattle.seq_model.specs.declared.job.Job.{Job}
 use Rattle.seq_model.specs.declared.tree.Choice.{Choice}
 use Rattle.seq_model.specs.declared.tree.Node.{Node}
 use Rattle.cert_checker.specs.Judged.{IsFineBy}
-use Rattle.cert_checker.specs.Prepared.{node_at, range_of}
+use Rattle.cert_checker.specs.Kept.{node_at, range_of}
 use Rattle.cert_checker.proofs.Ranges.{opened, range_empty}
 use Rattle.cert_checker.specs.Rules.{Breaks, Good, IsFirstBroken}
 use Rattle.cert_checker.specs.Waits.{also_each, waiting, AreNested}

@@ -13,7 +13,7 @@ use Rattle.seq_model.specs.declared.tree.Node.{Node}
 use Rattle.seq_model.specs.declared.tree.Node.TheVariants as Nodes
 use Rattle.cert_checker.specs.Rules.{Breaks, Good, IsFirstBroken}
 use Rattle.cert_checker.specs.Waits.{also_each}
-use Rattle.cert_checker.specs.Prepared.{AreChoices}
+use Rattle.cert_checker.specs.Kept.{AreChoices}
 use Rattle.cert_checker.specs.Wholes.{AreWhole}
 use Rattle.cert_checker.proofs.Counts.{Counts, counts_of_fills}
 use Rattle.cert_checker.specs.declared.rules.Rule.{Rule}

@@ -20,11 +20,11 @@ use Rattle.std.specs.List.{IsAmong}
 use Rattle.std.proofs.Common.{Ordering, Less, Equal, Greater}
 use Rattle.std.specs.Ordering.{match_ordering}
 use Rattle.std.proofs.lemmas.List.Elements.{All-head, All-tail, All-cons, All-weaker}
-use Rattle.cert_checker.specs.declared.prepared.Met.{Met}
-use Rattle.cert_checker.specs.Prepared.{AreChoices, AreMet, AreRanges, Extends, HasRange, HasSidesAt, HasRowsBeside, IsStuck, no_range, node_at, range_of}
+use Rattle.cert_checker.specs.declared.kept.Met.{Met}
+use Rattle.cert_checker.specs.Kept.{AreChoices, AreMet, AreRanges, Extends, HasRange, HasSidesAt, HasRowsBeside, IsStuck, no_range, node_at, range_of}
 use Rattle.cert_checker.specs.Rules.{HasAsManySides}
 use Rattle.cert_checker.specs.Trails.{IsRowFor}
-use Rattle.cert_checker.specs.declared.prepared.Range.{Range}
+use Rattle.cert_checker.specs.declared.kept.Range.{Range}
 
 pub zip_push : {A B : Type 0} (R : A → B → Type 0) (xs : List A) (ys : List B) (x : A) (y : B) → AllZip R xs ys → R x y → AllZip R (xs ++ x ∷ []) (ys ++ y ∷ [])
 zip_push R [] [] x y h r = (r, tt)

@@ -10,7 +10,7 @@ use Rattle.seq_model.specs.declared.job.Job.{Job}
 use Rattle.seq_model.specs.declared.tree.Choice.{Choice}
 use Rattle.seq_model.specs.declared.tree.Node.{Node}
 use Rattle.cert_checker.specs.Rules.{Breaks, Good, IsFirstBroken}
-use Rattle.cert_checker.specs.Prepared.{AreChoices, range_of}
+use Rattle.cert_checker.specs.Kept.{AreChoices, range_of}
 use Rattle.seq_model.specs.Trees.{Refutes}
 use Rattle.cert_checker.specs.declared.judging.Judged.{Judged}
 use Rattle.cert_checker.specs.declared.judging.Judged.TheVariants as judged

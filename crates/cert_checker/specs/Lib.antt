@@ -1,6 +1,6 @@
 pub mod Circles
 pub mod Judged
-pub mod Prepared
+pub mod Kept
 pub mod Rooms
 pub mod Rules
 pub mod Trails

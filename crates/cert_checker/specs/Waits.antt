@@ -9,9 +9,9 @@
 use Rattle.std.specs.Prelude.{ℕ, ◌<◌, ◌≤◌, List, [], ◌∷◌, ◌++◌, length, reverse, take, map}
 use Rattle.seq_model.specs.Trees.{also}
 use Rattle.seq_model.specs.declared.tree.Choice.{Choice}
-use Rattle.cert_checker.specs.Prepared.{range_of}
+use Rattle.cert_checker.specs.Kept.{range_of}
 use Rattle.cert_checker.specs.declared.frames.Frame.{Frame}
-use Rattle.cert_checker.specs.declared.prepared.Table.{Table}
+use Rattle.cert_checker.specs.declared.kept.Table.{Table}
 use Rattle.cert_checker.specs.declared.trail.Trail.{Trail}
 
 abbrev pub also_each : List Choice → List Choice → List (List Choice)

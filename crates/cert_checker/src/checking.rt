@@ -8,7 +8,7 @@ ghost use Rattle.seq_model.specs.declared.plan.Plan.{Plan};
 ghost use Rattle.cert_checker.specs.Rules.{IsFirstBroken};
 ghost use Rattle.cert_checker.specs.declared.rules.Rule.{Rule};
 
-use crate::prepared::prepare;
+use crate::kept::keep;
 use crate::rules::Checked;
 use crate::trail::Trail;
 use crate::walking::walk;
@@ -31,14 +31,14 @@ pub fn check(alloc: Global, job: &Job, extent: u32, tree: &Tree) -> Result<Check
         → Valid (scene_of_job job.now) e plan → ⊥) }
 {
     let nodes = tree.nodes.as_slice();
-    let prepared = prepare(alloc, job, extent, nodes)?;
+    let kept = keep(alloc, job, extent, nodes)?;
     let mut trail = Trail::with_room(alloc, nodes.len())?;
     let mut frames = Vec::with_capacity(alloc, nodes.len())?;
     let mut sums = Vec::new(alloc);
-    sums.resize(prepared.rooms.len(), 0)?;
+    sums.resize(kept.rooms.len(), 0)?;
     Ok(walk(
         job,
-        &prepared,
+        &kept,
         nodes,
         &mut trail,
         &mut frames,

@@ -37,11 +37,11 @@ pub fn exists(job: &Job, contact: &Contact) -> bool
     if part >= parts.len() {
         return false;
     }
-    zones_meet(&earlier[zi], &parts[part], &later[zj])
+    zones_meet(&parts[part], &later[zj], &earlier[zi])
 }
 
 /// Whether an order is of two objects of the job, the lesser first.
-pub fn is_pair_of_objects(job: &Job, i: u32, j: u32) -> bool
+pub fn are_ordered(job: &Job, i: u32, j: u32) -> bool
     ensures { IsTrue result ↔ ((i < j) × (j < length job.now.objects)) }
 {
     i < j && (j as usize) < job.objects.len()

@@ -7,13 +7,13 @@ ghost use Rattle.seq_model.specs.declared.job.Job.{Job};
 ghost use Rattle.seq_model.specs.declared.tree.Choice.{Choice};
 ghost use Rattle.seq_model.specs.declared.tree.Node.TheVariants as Nodes;
 ghost use Rattle.cert_checker.specs.Judged.{IfFine, IsJudged, IsOwnRule};
-ghost use Rattle.cert_checker.specs.Prepared.{AreRoomsOf, IsPrepared, node_at};
+ghost use Rattle.cert_checker.specs.Kept.{AreRoomsOf, IsKept, node_at};
 ghost use Rattle.cert_checker.specs.Rooms.{rooms_of};
 ghost use Rattle.cert_checker.specs.Trails.{AreRowsOf, HasRows, IsFit};
 
-use crate::contacts::{exists, is_pair_of_objects};
+use crate::contacts::{are_ordered, exists};
 use crate::cycles::runs_in_circle;
-use crate::prepared::Prepared;
+use crate::kept::Kept;
 use crate::rules::Rule;
 use crate::trail::Trail;
 use bound_sums::{Breach, first_breach};
@@ -62,31 +62,25 @@ fn bound_rule(rooms: &[i64], rows: &[SideRow], mults: &[Mult], sums: &mut [i128]
 }
 
 // The first rule that a node breaks, but for its number of children.
-fn own_rule(
-    job: &Job,
-    prepared: &Prepared,
-    node: &Node,
-    trail: &Trail,
-    sums: &mut [i128],
-) -> Option<Rule>
-    requires rooms { AreRoomsOf job.now prepared.now }
+fn own_rule(job: &Job, kept: &Kept, node: &Node, trail: &Trail, sums: &mut [i128]) -> Option<Rule>
+    requires rooms { AreRoomsOf job.now kept.now }
     requires fit { IsFit trail.now }
     requires rows { HasRows job.now trail.now }
     requires spelt { IsSpelt node.now }
-    requires sums { length sums.old ≡ length prepared.now.rooms.items }
-    ensures rule { IsOwnRule job.now prepared.now.extent trail.now.path.items node.now result }
-    ensures sums { length sums.new ≡ length prepared.now.rooms.items }
+    requires sums { length sums.old ≡ length kept.now.rooms.items }
+    ensures rule { IsOwnRule job.now kept.now.extent trail.now.path.items node.now result }
+    ensures sums { length sums.new ≡ length kept.now.rooms.items }
 {
     match node {
         Node::Order { i, j } => {
-            if is_pair_of_objects(job, *i, *j) {
+            if are_ordered(job, *i, *j) {
                 return None;
             }
             Some(Rule::Objects)
         }
         Node::Side { contact, .. } => side_rule(job, trail, contact),
         Node::Bound { mults } => bound_rule(
-            prepared.rooms.as_slice(),
+            kept.rooms.as_slice(),
             trail.rows.as_slice(),
             mults.as_slice(),
             sums,
@@ -104,30 +98,30 @@ fn own_rule(
 /// What is said of a node that is judged next, at the path of the trail.
 pub fn judge(
     job: &Job,
-    prepared: &Prepared,
+    kept: &Kept,
     nodes: &[Node],
     number: usize,
     trail: &Trail,
     sums: &mut [i128],
 ) -> Judged
     requires number { number < length nodes.now }
-    requires prepared { IsPrepared job.now nodes.now prepared.now }
-    requires due { number ≤ length prepared.now.ranges.items }
+    requires kept { IsKept job.now nodes.now kept.now }
+    requires due { number ≤ length kept.now.ranges.items }
     requires fit { IsFit trail.now }
     requires rows { HasRows job.now trail.now }
     requires spelt { All IsSpelt nodes.now }
-    requires sums { length sums.old ≡ length prepared.now.rooms.items }
-    ensures judged { IsJudged job.now prepared.now.extent prepared.now.table.choices.items
+    requires sums { length sums.old ≡ length kept.now.rooms.items }
+    ensures judged { IsJudged job.now kept.now.extent kept.now.table.choices.items
         trail.now.path.items (node_at nodes.now number) result }
-    ensures due { IfFine result (number < length prepared.now.ranges.items) }
-    ensures sums { length sums.new ≡ length prepared.now.rooms.items }
+    ensures due { IfFine result (number < length kept.now.ranges.items) }
+    ensures sums { length sums.new ≡ length kept.now.rooms.items }
 {
-    if let Some(rule) = own_rule(job, prepared, &nodes[number], trail, sums) {
+    if let Some(rule) = own_rule(job, kept, &nodes[number], trail, sums) {
         return Judged::Broken(rule);
     }
-    if number >= prepared.ranges.len() {
+    if number >= kept.ranges.len() {
         return Judged::Broken(Rule::Children);
     }
-    let range = prepared.ranges[number];
+    let range = kept.ranges[number];
     Judged::Fine(range.from, range.to)
 }

@@ -3,7 +3,7 @@
 //! `check` passes exactly where the tree refutes the extent, and so leaves no valid plan there nor below, whoever wrote it. Else it names
 //! the first node in preorder that breaks a rule, and of its rules the first that it breaks, in the order that `Rule` lists.
 //!
-//! It first prepares what the whole tree needs: the sides of each contact, the choices of each split, and the room that is left for
+//! It first makes what it keeps for the whole tree: the sides of each contact, the choices of each split, and the room that is left for
 //! each variable; and it takes its memory then. The walk over the nodes takes none and doesn't recurse. It keeps the path of the node at
 //! hand, with the rows of its sides and the place where each order of two objects stands first, so that a node costs what it says and not
 //! what stands above it.
@@ -16,7 +16,7 @@ mod contacts;
 mod cycles;
 mod frames;
 mod judging;
-mod prepared;
+mod kept;
 mod rooms;
 mod rules;
 mod trail;

@@ -4,14 +4,14 @@ ghost use Rattle.std.specs.Vec.{vec_capacity};
 ghost use Rattle.cert_text.specs.TreeText.{IsSpelt};
 ghost use Rattle.seq_model.specs.declared.job.Job.{Job};
 ghost use Rattle.cert_checker.specs.Judged.{IsChecked};
-ghost use Rattle.cert_checker.specs.Prepared.{IsPrepared, IsTable};
+ghost use Rattle.cert_checker.specs.Kept.{IsKept, IsTable};
 ghost use Rattle.cert_checker.specs.Trails.{HasRoom, HasRows, IsFit};
 ghost use Rattle.cert_checker.specs.Waits.{AreOpen, to_come};
 ghost use Rattle.cert_checker.specs.Wholes.{AreWhole};
 
 use crate::frames::{Frame, put};
 use crate::judging::{Judged, judge};
-use crate::prepared::{Prepared, Table};
+use crate::kept::{Kept, Table};
 use crate::rules::Checked;
 use crate::trail::Trail;
 use seq_model::{Job, Node};
@@ -70,7 +70,7 @@ fn open(frames: &mut Vec<Frame>, depth: usize, next: usize, end: usize)
 /// The walk over the nodes of a whole tree, from the empty path, with room for what it keeps.
 pub fn walk(
     job: &Job,
-    prepared: &Prepared,
+    kept: &Kept,
     nodes: &[Node],
     trail: &mut Trail,
     frames: &mut Vec<Frame>,
@@ -78,24 +78,24 @@ pub fn walk(
 ) -> Checked
     requires whole { AreWhole nodes.now }
     requires spelt { All IsSpelt nodes.now }
-    requires prepared { IsPrepared job.now nodes.now prepared.now }
+    requires kept { IsKept job.now nodes.now kept.now }
     requires path { trail.old.path.items ≡ [] }
     requires fit { IsFit trail.old }
     requires rows { HasRows job.now trail.old }
     requires frames { frames.old.items ≡ [] }
-    requires sums { length sums.old ≡ length prepared.now.rooms.items }
+    requires sums { length sums.old ≡ length kept.now.rooms.items }
     requires path_room { HasRoom trail.old (length nodes.now) }
     requires frames_room { length nodes.now ≤ vec_capacity frames.old }
-    ensures { IsChecked job.now prepared.now.extent nodes.now result }
+    ensures { IsChecked job.now kept.now.extent nodes.now result }
 {
     let mut number = 0;
     while number < nodes.len() {
-        match judge(job, prepared, nodes, number, trail, sums) {
+        match judge(job, kept, nodes, number, trail, sums) {
             Judged::Broken(rule) => return Checked::Fails(number as u64, rule),
             Judged::Fine(next, end) => open(frames, trail.path.len(), next, end),
         }
         number += 1;
-        if !advance(&prepared.table, trail, frames) {
+        if !advance(&kept.table, trail, frames) {
             return Checked::Passes;
         }
     }

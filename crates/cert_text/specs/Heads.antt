@@ -17,8 +17,8 @@ use Rattle.text_lines.specs.Lines.{number_line_at}
 use Rattle.seq_model.specs.declared.tree.WideNote.{WideNote}
 use Rattle.seq_model.specs.declared.what.What.{What}
 use Rattle.seq_model.specs.declared.what.What.TheVariants as what
-use Rattle.cert_text.specs.declared.block.BlockError.{BlockError}
-use Rattle.cert_text.specs.declared.block.BlockError.TheVariants as answers
+use Rattle.cert_text.specs.declared.block.CertRead.{CertRead}
+use Rattle.cert_text.specs.declared.block.CertRead.TheVariants as answers
 use Rattle.cert_text.specs.declared.block.Head.{Head}
 use Rattle.cert_text.specs.declared.block.Kind.{Kind}
 use Rattle.cert_text.specs.declared.block.Kind.TheVariants.{Certificate, OpenBudget, OpenWide}
@@ -52,7 +52,7 @@ wide_at bytes = do
   more ← numbers_at (codes ",") (length w.1) w.1
   if is_due w.0 more.0 then Some ((w.0, more.0), more.1) else None
 
-abbrev pub refusal : ℕ → What → List ℕ → BlockError
+abbrev pub refusal : ℕ → What → List ℕ → CertRead
 refusal number what bytes = if has_line_end bytes then answers.Line number what else answers.Truncated
 
 -- 2^62 - 1 is the greatest number of a node
@@ -62,31 +62,31 @@ is_wide_far w more = int_lt (pos 4_611_686_018_427_387_903) w.node || is_far w.r
 abbrev pub note_of : Wide → List ℤ → WideNote
 note_of w more = record { node = unsigned_abs w.node; basis = map unsigned_abs (w.first ∷ more); row = unsigned_abs w.row }
 
-abbrev pub noted : List ℕ → Option ((Wide × List ℤ) × List ℕ) → Result (WideNote × List ℕ) BlockError
+abbrev pub noted : List ℕ → Option ((Wide × List ℤ) × List ℕ) → Result (WideNote × List ℕ) CertRead
 noted bytes None = Err (refusal 3 what.Wide bytes)
 noted bytes (Some r) = if is_wide_far r.0.0 r.0.1 then Err (answers.Line 3 what.Range) else Ok (note_of r.0.0 r.0.1, r.1)
 
-unfoldable pub note_at : List ℕ → Result (WideNote × List ℕ) BlockError
+unfoldable pub note_at : List ℕ → Result (WideNote × List ℕ) CertRead
 note_at bytes = noted bytes (wide_at bytes)
 
-abbrev pub with_note : ℕ → Result (WideNote × List ℕ) BlockError → Result (Head × List ℕ) BlockError
+abbrev pub with_note : ℕ → Result (WideNote × List ℕ) CertRead → Result (Head × List ℕ) CertRead
 with_note extent (Err e) = Err e
 with_note extent (Ok r) = Ok (record { kind = OpenWide; extent = extent; wide = Some r.0 }, r.1)
 
-abbrev pub headed : Kind → ℕ → List ℕ → Result (Head × List ℕ) BlockError
+abbrev pub headed : Kind → ℕ → List ℕ → Result (Head × List ℕ) CertRead
 headed Certificate extent rest = Ok (record { kind = Certificate; extent = extent; wide = None }, rest)
 headed OpenBudget extent rest = Ok (record { kind = OpenBudget; extent = extent; wide = None }, rest)
 headed OpenWide extent rest = with_note extent (note_at rest)
 
-abbrev pub extended : Kind → List ℕ → Option (ℕ × List ℕ) → Result (Head × List ℕ) BlockError
+abbrev pub extended : Kind → List ℕ → Option (ℕ × List ℕ) → Result (Head × List ℕ) CertRead
 extended kind bytes None = Err (refusal 2 what.Extent bytes)
 extended kind bytes (Some x) = headed kind x.0 x.1
 
-abbrev pub begun : Kind → List ℕ → Option (List ℕ) → Result (Head × List ℕ) BlockError
+abbrev pub begun : Kind → List ℕ → Option (List ℕ) → Result (Head × List ℕ) CertRead
 begun kind bytes None = Err (refusal 1 what.Header bytes)
 begun kind bytes (Some rest) = extended kind rest (number_line_at (extent_word kind) MOST_GRID rest)
 
-unfoldable pub head_at : Kind → List ℕ → Result (Head × List ℕ) BlockError
+unfoldable pub head_at : Kind → List ℕ → Result (Head × List ℕ) CertRead
 head_at kind bytes = begun kind bytes (literal_at (first_line kind) bytes)
 
 abbrev pub before : Kind → ℕ
@@ -95,7 +95,7 @@ before OpenBudget = 2
 before OpenWide = 3
 
 -- line k of the nodes, counted from 0, is this line of the block
-abbrev pub refused : ℕ → Fault → BlockError
+abbrev pub refused : ℕ → Fault → CertRead
 refused b (faults.Stopped k stops.Unended) = answers.Truncated
 refused b (faults.Stopped k stops.Other) = answers.Line (b + k + 1) what.Node
 refused b (faults.Stopped k stops.Range) = answers.Line (b + k + 1) what.Range
@@ -106,7 +106,7 @@ refused b faults.Unended = answers.Truncated
 refused b faults.NoMemory = answers.NoMemory
 
 -- the nodes behind the head aren't read
-pub record IsRefusedBehind (bytes : List ℕ) (kind : Kind) (e : BlockError) : Type 0 where
+pub record IsRefusedBehind (bytes : List ℕ) (kind : Kind) (e : CertRead) : Type 0 where
   pub head : Head
   pub rest : List ℕ
   pub read : head_at kind bytes ≡ Ok (head, rest)
@@ -114,5 +114,5 @@ pub record IsRefusedBehind (bytes : List ℕ) (kind : Kind) (e : BlockError) : T
   pub is : IsRefusedAt line_at rest fault
   pub answer : e ≡ refused (before kind) fault
 
-abbrev pub IsRefusedTree : List ℕ → Kind → BlockError → Type 0
+abbrev pub IsRefusedTree : List ℕ → Kind → CertRead → Type 0
 IsRefusedTree bytes kind e = (head_at kind bytes ≡ Err e) ⊎ IsRefusedBehind bytes kind e

@@ -22,7 +22,7 @@ pub struct Head {
 
 /// Why bytes are no tree block. Lines count from 1 at the block's first line.
 #[derive(Clone, Copy, Debug, PartialEq, Eq, Error)]
-pub enum BlockError {
+pub enum CertRead {
     /// The line of this number is ended and isn't of the due form, or a number on it is too great.
     #[error("the tree block is refused")]
     Line(u64, What),

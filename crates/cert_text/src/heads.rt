@@ -9,7 +9,7 @@ ghost use Rattle.cert_text.specs.Laws.Heads.{IsFittingWide};
 
 use crate::lines::any_far;
 use crate::numbers::{number, numbers};
-use crate::{BlockError, Head, Kind};
+use crate::{CertRead, Head, Kind};
 use owned_lists::Items;
 use seq_limits::MOST_GRID;
 use seq_model::{What, WideNote};
@@ -113,46 +113,42 @@ fn note(alloc: Global, wide: &Wide, more: &[i128]) -> Result<WideNote, AllocErro
 }
 
 // Why the due line at the front isn't read.
-fn refusal(bytes: &[u8], number: u64, what: What) -> BlockError
+fn refusal(bytes: &[u8], number: u64, what: What) -> CertRead
     ensures { result ≡ refusal number what bytes.now }
 {
     if has_line_end(bytes) {
-        BlockError::Line(number, what)
+        CertRead::Line(number, what)
     } else {
-        BlockError::Truncated
+        CertRead::Truncated
     }
 }
 
 #[tactic(auto, unfolding(crate::specs::Heads::note_at))]
-fn note_line(alloc: Global, bytes: &[u8]) -> Result<(WideNote, &[u8]), BlockError>
+fn note_line(alloc: Global, bytes: &[u8]) -> Result<(WideNote, &[u8]), CertRead>
     ensures read { IfOk result (λ r. note_at bytes.now ≡ Ok (r.0, r.1.now)) }
-    ensures refused { IfErr result (λ e. e ≢ BlockError.NoMemory → note_at bytes.now ≡ Err e) }
+    ensures refused { IfErr result (λ e. e ≢ CertRead.NoMemory → note_at bytes.now ≡ Err e) }
 {
     let mut found = Vec::new(alloc);
     let Ok(line) = wide_line(&mut found, bytes) else {
-        return Err(BlockError::NoMemory);
+        return Err(CertRead::NoMemory);
     };
     let Some((wide, rest)) = line else {
         return Err(refusal(bytes, 3, What::Wide));
     };
     if is_far(&wide, &found) {
-        return Err(BlockError::Line(3, What::Range));
+        return Err(CertRead::Line(3, What::Range));
     }
     match note(alloc, &wide, &found) {
         Ok(note) => Ok((note, rest)),
-        Err(_) => Err(BlockError::NoMemory),
+        Err(_) => Err(CertRead::NoMemory),
     }
 }
 
 /// The lines before the nodes, and the bytes after them.
 #[tactic(auto, unfolding(crate::specs::Heads::head_at))]
-pub(crate) fn read_head(
-    alloc: Global,
-    bytes: &[u8],
-    kind: Kind,
-) -> Result<(Head, &[u8]), BlockError>
+pub(crate) fn read_head(alloc: Global, bytes: &[u8], kind: Kind) -> Result<(Head, &[u8]), CertRead>
     ensures read { IfOk result (λ r. head_at kind bytes.now ≡ Ok (r.0, r.1.now)) }
-    ensures refused { IfErr result (λ e. e ≢ BlockError.NoMemory → head_at kind bytes.now ≡ Err e) }
+    ensures refused { IfErr result (λ e. e ≢ CertRead.NoMemory → head_at kind bytes.now ≡ Err e) }
 {
     let Some(rest) = literal(bytes, kind.first_line()) else {
         return Err(refusal(bytes, 1, What::Header));

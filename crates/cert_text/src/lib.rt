@@ -20,6 +20,6 @@ mod pairs;
 mod reading;
 mod writing;
 
-pub use block::{BlockError, Head, Kind};
+pub use block::{CertRead, Head, Kind};
 pub use reading::read_tree;
 pub use writing::write_tree;

@@ -1,8 +1,8 @@
 -- What a reading came to gives the answer.
 use Rattle.std.proofs.Common.{◌≡◌, ℕ, ◌<◌, ◌≤◌, ℤ, pos, neg_ℤ, List, length, cond, Some, None, Err, refl, sym, ap, ◌∙◌, arith, subst, unsigned_abs}
 use Rattle.std.proofs.lemmas.Int.{ints}
-use Rattle.decimal_lengths.specs.declared.DecimalError.{DecimalError}
-use Rattle.decimal_lengths.specs.declared.DecimalError.TheVariants.{BadByte, NoDigit, TooFar}
+use Rattle.decimal_lengths.specs.declared.Decimal.{Decimal}
+use Rattle.decimal_lengths.specs.declared.Decimal.TheVariants.{BadByte, NoDigit, TooFar}
 use Rattle.decimal_lengths.specs.declared.scanning.Number.{Number}
 use Rattle.decimal_lengths.specs.Decimals.{Sign, absent, plus, minus, signed}
 use Rattle.decimal_lengths.specs.Lengths.{IsReadAs}
@@ -12,7 +12,7 @@ use Rattle.decimal_lengths.specs.Sizes.{size_of, IsUpTo}
 use Rattle.decimal_lengths.proofs.Measuring.{length_read}
 use Rattle.decimal_lengths.proofs.Refusing.{first_bad, unfinished}
 
-pub stopped : (bytes : List ℕ) (cause : DecimalError) → 0 < length bytes → length bytes ≤ 64 → StopsBy bytes cause → Answers bytes (Err cause)
+pub stopped : (bytes : List ℕ) (cause : Decimal) → 0 < length bytes → length bytes ≤ 64 → StopsBy bytes cause → Answers bytes (Err cause)
 stopped bytes (BadByte p) some short h = (short, first_bad bytes p h)
 stopped bytes NoDigit some short h = (some, short, unfinished bytes h)
 stopped bytes _ some short h = absurd h

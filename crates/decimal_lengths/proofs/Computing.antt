@@ -2,7 +2,7 @@
 use Rattle.std.proofs.Common.{◌≡◌, ◌≤◌, ◌↔◌, ℕ, ℤ, Bool, true, false, List, length, Option, Some, None, Result, Ok, Err, cond, nat_le, refl, sym, subst, unsigned_abs, arith}
 use Rattle.std.proofs.lemmas.Bool.Decides.{nat_tests}
 use Rattle.std.specs.Result.{result_ok}
-use Rattle.decimal_lengths.specs.declared.DecimalError.{DecimalError}
+use Rattle.decimal_lengths.specs.declared.Decimal.{Decimal}
 use Rattle.decimal_lengths.specs.declared.scanning.Phase.{Phase}
 use Rattle.decimal_lengths.specs.declared.scanning.Phase.TheVariants as Phases
 use Rattle.decimal_lengths.specs.Computed.{is_complete, if_near, length_behind, length_of}
@@ -74,10 +74,10 @@ read_is bytes um r =
 pub each : (bytes : List ℕ) (um : ℤ) → (length_of bytes ≡ Some um) ↔ IsReadAs bytes um
 each bytes um = (computed_is bytes um, read_is bytes um)
 
-no_length : (bytes : List ℕ) (cause : DecimalError) (o : Option ℤ) → length_of bytes ≡ o → Answers bytes (Err cause) → None ≡ o
+no_length : (bytes : List ℕ) (cause : Decimal) (o : Option ℤ) → length_of bytes ≡ o → Answers bytes (Err cause) → None ≡ o
 no_length bytes cause None e a = refl
 no_length bytes cause (Some um) e a = (let same = only_length bytes um (Err cause) (computed_is bytes um e) a in absurd cc)
 
-pub value_of : (bytes : List ℕ) (r : Result ℤ DecimalError) → Answers bytes r → result_ok r ≡ length_of bytes
+pub value_of : (bytes : List ℕ) (r : Result ℤ Decimal) → Answers bytes r → result_ok r ≡ length_of bytes
 value_of bytes (Ok um) a = sym (read_is bytes um a)
 value_of bytes (Err cause) a = no_length bytes cause (length_of bytes) refl a

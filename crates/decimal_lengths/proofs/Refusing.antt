@@ -3,8 +3,8 @@ use Rattle.std.proofs.Common.{◌≡◌, ℕ, ◌+◌, ◌<◌, ℤ, List, [], �
 use Rattle.std.proofs.lemmas.List.{take-append-drop, take-take, append-nil}
 use Rattle.std.proofs.lemmas.List.Sums.{fold-append}
 use Rattle.std.proofs.lemmas.Bool.{cases_lt}
-use Rattle.decimal_lengths.specs.declared.DecimalError.{DecimalError}
-use Rattle.decimal_lengths.specs.declared.DecimalError.TheVariants.{Empty, TooLong, BadByte, NoDigit, TooFar}
+use Rattle.decimal_lengths.specs.declared.Decimal.{Decimal}
+use Rattle.decimal_lengths.specs.declared.Decimal.TheVariants.{Empty, TooLong, BadByte, NoDigit, TooFar}
 use Rattle.decimal_lengths.specs.declared.scanning.Phase.{Phase}
 use Rattle.decimal_lengths.specs.declared.scanning.Phase.TheVariants as Phases
 use Rattle.decimal_lengths.specs.Decimals.{IsDecimal, BeginsDecimal}
@@ -121,7 +121,7 @@ far_not_near bytes um r f =
     let far = f.far in
     absurd (omega (arith, ap unsigned_abs same))
 
-only_empty : (bytes : List ℕ) (r : Result ℤ DecimalError) → bytes ≡ [] → Answers bytes r → Err Empty ≡ r
+only_empty : (bytes : List ℕ) (r : Result ℤ Decimal) → bytes ≡ [] → Answers bytes r → Err Empty ≡ r
 only_empty bytes (Ok um) e a = absurd (no_empty bytes e a.value.decimal)
 only_empty bytes (Err Empty) e a = refl
 only_empty bytes (Err TooLong) e a = absurd (omega (arith, empty_length bytes e))
@@ -129,7 +129,7 @@ only_empty bytes (Err (BadByte p)) e a = absurd (let w = a.1.within in omega (ar
 only_empty bytes (Err NoDigit) e a = absurd (omega (arith, empty_length bytes e))
 only_empty bytes (Err TooFar) e a = absurd (no_empty bytes e a.1.value.decimal)
 
-only_too_long : (bytes : List ℕ) (r : Result ℤ DecimalError) → 64 < length bytes → Answers bytes r → Err TooLong ≡ r
+only_too_long : (bytes : List ℕ) (r : Result ℤ Decimal) → 64 < length bytes → Answers bytes r → Err TooLong ≡ r
 only_too_long bytes (Ok um) h a = absurd (let s = a.short in omega arith)
 only_too_long bytes (Err Empty) h a = absurd (omega (arith, empty_length bytes a))
 only_too_long bytes (Err TooLong) h a = refl
@@ -137,7 +137,7 @@ only_too_long bytes (Err (BadByte p)) h a = absurd (let s = a.0 in omega arith)
 only_too_long bytes (Err NoDigit) h a = absurd (let s = a.1 in omega arith)
 only_too_long bytes (Err TooFar) h a = absurd (let s = a.0 in omega arith)
 
-only_bad_byte : (bytes : List ℕ) (p : ℕ) (r : Result ℤ DecimalError) → Refuses bytes (BadByte p) → Answers bytes r → Err (BadByte p) ≡ r
+only_bad_byte : (bytes : List ℕ) (p : ℕ) (r : Result ℤ Decimal) → Refuses bytes (BadByte p) → Answers bytes r → Err (BadByte p) ≡ r
 only_bad_byte bytes p (Ok um) h a = absurd (decimal_not_bad bytes p h.1 a.value.decimal)
 only_bad_byte bytes p (Err Empty) h a = sym (only_empty bytes (Err (BadByte p)) a h)
 only_bad_byte bytes p (Err TooLong) h a = sym (only_too_long bytes (Err (BadByte p)) a h)
@@ -145,7 +145,7 @@ only_bad_byte bytes p (Err (BadByte q)) h a = ap (λ n. Err (BadByte n)) (one_ba
 only_bad_byte bytes p (Err NoDigit) h a = absurd (not_bad bytes (a.2.next ∷ a.2.rest) p h.1 a.2.finished)
 only_bad_byte bytes p (Err TooFar) h a = absurd (decimal_not_bad bytes p h.1 a.1.value.decimal)
 
-only_no_digit : (bytes : List ℕ) (r : Result ℤ DecimalError) → Refuses bytes NoDigit → Answers bytes r → Err NoDigit ≡ r
+only_no_digit : (bytes : List ℕ) (r : Result ℤ Decimal) → Refuses bytes NoDigit → Answers bytes r → Err NoDigit ≡ r
 only_no_digit bytes (Ok um) h a = absurd (h.2.unfinished a.value.decimal)
 only_no_digit bytes (Err Empty) h a = sym (only_empty bytes (Err NoDigit) a h)
 only_no_digit bytes (Err TooLong) h a = sym (only_too_long bytes (Err NoDigit) a h)
@@ -153,7 +153,7 @@ only_no_digit bytes (Err (BadByte p)) h a = sym (only_bad_byte bytes p (Err NoDi
 only_no_digit bytes (Err NoDigit) h a = refl
 only_no_digit bytes (Err TooFar) h a = absurd (h.2.unfinished a.1.value.decimal)
 
-only_too_far : (bytes : List ℕ) (r : Result ℤ DecimalError) → Refuses bytes TooFar → Answers bytes r → Err TooFar ≡ r
+only_too_far : (bytes : List ℕ) (r : Result ℤ Decimal) → Refuses bytes TooFar → Answers bytes r → Err TooFar ≡ r
 only_too_far bytes (Ok um) h a = absurd (far_not_near bytes um a h.1)
 only_too_far bytes (Err Empty) h a = sym (only_empty bytes (Err TooFar) a h)
 only_too_far bytes (Err TooLong) h a = sym (only_too_long bytes (Err TooFar) a h)
@@ -161,7 +161,7 @@ only_too_far bytes (Err (BadByte p)) h a = sym (only_bad_byte bytes p (Err TooFa
 only_too_far bytes (Err NoDigit) h a = sym (only_no_digit bytes (Err TooFar) a h)
 only_too_far bytes (Err TooFar) h a = refl
 
-pub only_length : (bytes : List ℕ) (um : ℤ) (r : Result ℤ DecimalError) → IsReadAs bytes um → Answers bytes r → Ok um ≡ r
+pub only_length : (bytes : List ℕ) (um : ℤ) (r : Result ℤ Decimal) → IsReadAs bytes um → Answers bytes r → Ok um ≡ r
 only_length bytes um (Ok other) h a = ap Ok (one_length bytes um other h.value a.value)
 only_length bytes um (Err Empty) h a = sym (only_empty bytes (Ok um) a h)
 only_length bytes um (Err TooLong) h a = sym (only_too_long bytes (Ok um) a h)
@@ -169,7 +169,7 @@ only_length bytes um (Err (BadByte p)) h a = sym (only_bad_byte bytes p (Ok um) 
 only_length bytes um (Err NoDigit) h a = sym (only_no_digit bytes (Ok um) a h)
 only_length bytes um (Err TooFar) h a = sym (only_too_far bytes (Ok um) a h)
 
-one_answer : (bytes : List ℕ) (r s : Result ℤ DecimalError) → Answers bytes r → Answers bytes s → r ≡ s
+one_answer : (bytes : List ℕ) (r s : Result ℤ Decimal) → Answers bytes r → Answers bytes s → r ≡ s
 one_answer bytes (Ok um) s a b = only_length bytes um s a b
 one_answer bytes (Err Empty) s a b = only_empty bytes s a b
 one_answer bytes (Err TooLong) s a b = only_too_long bytes s a b
@@ -177,5 +177,5 @@ one_answer bytes (Err (BadByte p)) s a b = only_bad_byte bytes p s a b
 one_answer bytes (Err NoDigit) s a b = only_no_digit bytes s a b
 one_answer bytes (Err TooFar) s a b = only_too_far bytes s a b
 
-pub exact : (bytes : List ℕ) (r s : Result ℤ DecimalError) → Answers bytes r → (r ≡ s) ↔ Answers bytes s
-exact bytes r s a = (λ e. (let P : Result ℤ DecimalError → Type 0 = Answers bytes in subst P e a), λ b. one_answer bytes r s a b)
+pub exact : (bytes : List ℕ) (r s : Result ℤ Decimal) → Answers bytes r → (r ≡ s) ↔ Answers bytes s
+exact bytes r s a = (λ e. (let P : Result ℤ Decimal → Type 0 = Answers bytes in subst P e a), λ b. one_answer bytes r s a b)

@@ -6,8 +6,8 @@
 --   Refuses bytes cause    the bytes are refused for this cause
 --   Answers bytes result   the result is their length or this cause
 use Rattle.std.specs.Prelude.{◌≡◌, ℕ, ℤ, ◌+◌, ◌<◌, ◌≤◌, List, [], ◌∷◌, ◌++◌, length, take, unsigned_abs, Result, Ok, Err}
-use Rattle.decimal_lengths.specs.declared.DecimalError.{DecimalError}
-use Rattle.decimal_lengths.specs.declared.DecimalError.TheVariants.{Empty, TooLong, BadByte, NoDigit, TooFar}
+use Rattle.decimal_lengths.specs.declared.Decimal.{Decimal}
+use Rattle.decimal_lengths.specs.declared.Decimal.TheVariants.{Empty, TooLong, BadByte, NoDigit, TooFar}
 use Rattle.decimal_lengths.specs.Decimals.{IsDecimal, BeginsDecimal}
 use Rattle.decimal_lengths.specs.Lengths.{IsLength, IsReadAs}
 use Rattle.seq_limits.specs.declared.TheConstants.{FARTHEST}
@@ -28,13 +28,13 @@ pub record IsFar (bytes : List ℕ) : Type 0 where
   pub value : IsLength bytes um
   pub far : FARTHEST < unsigned_abs um
 
-abbrev pub Refuses : List ℕ → DecimalError → Type 0
+abbrev pub Refuses : List ℕ → Decimal → Type 0
 Refuses bytes Empty = bytes ≡ []
 Refuses bytes TooLong = 64 < length bytes
 Refuses bytes (BadByte p) = (length bytes ≤ 64) × IsFirstBad bytes p
 Refuses bytes NoDigit = (0 < length bytes) × (length bytes ≤ 64) × IsUnfinished bytes
 Refuses bytes TooFar = (length bytes ≤ 64) × IsFar bytes
 
-abbrev pub Answers : List ℕ → Result ℤ DecimalError → Type 0
+abbrev pub Answers : List ℕ → Result ℤ Decimal → Type 0
 Answers bytes (Ok um) = IsReadAs bytes um
 Answers bytes (Err cause) = Refuses bytes cause

@@ -15,8 +15,8 @@
 use Rattle.std.specs.Prelude.{◌≡◌, ℕ, ◌+◌, ◌*◌, ◌-◌, ◌/◌, ◌^◌, ◌<◌, ◌≤◌, min, ◌==◌, ◌||◌, Bool, true, false, List, length, take, Option, Some, None, fold, if◌then◌else◌}
 use Rattle.std.specs.Option.{option_map}
 use Rattle.std.specs.Char.{is_ascii_digit}
-use Rattle.decimal_lengths.specs.declared.DecimalError.{DecimalError}
-use Rattle.decimal_lengths.specs.declared.DecimalError.TheVariants.{BadByte, NoDigit}
+use Rattle.decimal_lengths.specs.declared.Decimal.{Decimal}
+use Rattle.decimal_lengths.specs.declared.Decimal.TheVariants.{BadByte, NoDigit}
 use Rattle.decimal_lengths.specs.declared.scanning.Kind.{Kind}
 use Rattle.decimal_lengths.specs.declared.scanning.Kind.TheVariants as Kinds
 use Rattle.decimal_lengths.specs.declared.scanning.Phase.{Phase}
@@ -145,7 +145,7 @@ pub record StopsShort (bytes : List ℕ) : Type 0 where
   pub came : reading bytes ≡ Some state
   pub incomplete : ¬ IsComplete state.phase
 
-abbrev pub StopsBy : List ℕ → DecimalError → Type 0
+abbrev pub StopsBy : List ℕ → Decimal → Type 0
 StopsBy bytes (BadByte p) = StopsAt bytes p
 StopsBy bytes NoDigit = StopsShort bytes
 StopsBy bytes _ = ⊥

@@ -19,7 +19,7 @@ pub use writing::write_um;
 
 /// Why bytes are no length.
 #[derive(Clone, Copy, Debug, PartialEq, Eq)]
-pub enum DecimalError {
+pub enum Decimal {
     /// There is no byte.
     Empty,
     /// There are more than 64.

@@ -6,7 +6,7 @@ ghost use Rattle.decimal_lengths.specs.Computed.{length_of};
 ghost use Rattle.decimal_lengths.specs.Lengths.{IsReadAs};
 ghost use Rattle.decimal_lengths.specs.Refusals.{Refuses, Answers};
 
-use crate::DecimalError;
+use crate::Decimal;
 use crate::scanning::scan;
 use crate::sizing::size;
 
@@ -16,16 +16,16 @@ const MOST_BYTES: usize = 64;
 ///
 /// A decimal is an optional sign, digits with at most one point and at least one digit, and optionally `e` or `E` with
 /// an optional sign and at least one digit.
-pub fn read_um(bytes: &[u8]) -> Result<i64, DecimalError>
+pub fn read_um(bytes: &[u8]) -> Result<i64, Decimal>
     ensures length { (um : ℤ) → (result ≡ Ok um) ↔ IsReadAs bytes.now um }
     ensures value { result_ok result ≡ length_of bytes.now }
-    ensures refused { (cause : DecimalError) → (result ≡ Err cause) ↔ Refuses bytes.now cause }
+    ensures refused { (cause : Decimal) → (result ≡ Err cause) ↔ Refuses bytes.now cause }
 {
     if bytes.is_empty() {
-        return Err(DecimalError::Empty);
+        return Err(Decimal::Empty);
     }
     if bytes.len() > MOST_BYTES {
-        return Err(DecimalError::TooLong);
+        return Err(Decimal::TooLong);
     }
     read_short(bytes)
 }
@@ -35,14 +35,14 @@ pub fn each_length()
     ensures { (bytes : List ℕ) (um : ℤ) → (length_of bytes ≡ Some um) ↔ IsReadAs bytes um }
 {}
 
-fn read_short(bytes: &[u8]) -> Result<i64, DecimalError>
+fn read_short(bytes: &[u8]) -> Result<i64, Decimal>
     requires some { 0 < length bytes.now }
     requires short { length bytes.now ≤ 64 }
     ensures { Answers bytes.now result }
 {
     let number = scan(bytes)?;
     let Some(um) = size(&number) else {
-        return Err(DecimalError::TooFar);
+        return Err(Decimal::TooFar);
     };
     Ok(with_sign(number.negative, um))
 }

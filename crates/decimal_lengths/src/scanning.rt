@@ -3,7 +3,7 @@
 ghost use Rattle.std.specs.Prelude.{◌≡◌, ◌≤◌, ◌<◌, ◌+◌, ◌*◌, ◌^◌, ◌↔◌, ℕ, min, length, IfOk, IfErr, IsTrue};
 ghost use Rattle.decimal_lengths.specs.Scanning.{kind_of, next_phase, IsComplete, HasDigit, Spelled, nothing, with_kind, KeepsDigits, Keeps, IsCounted, Accepts, StopsBy};
 
-use crate::DecimalError;
+use crate::Decimal;
 
 /// What a byte can be in a decimal.
 #[derive(Clone, Copy)]
@@ -180,7 +180,7 @@ impl Number {
 }
 
 /// Reads a whole decimal.
-pub fn scan(bytes: &[u8]) -> Result<Number, DecimalError>
+pub fn scan(bytes: &[u8]) -> Result<Number, Decimal>
     requires { length bytes.now ≤ 64 }
     ensures accepted { IfOk result (λ number. Accepts bytes.now number) }
     ensures refused { IfErr result (λ cause. StopsBy bytes.now cause) }
@@ -190,7 +190,7 @@ pub fn scan(bytes: &[u8]) -> Result<Number, DecimalError>
     for (place, byte) in bytes.iter().enumerate() {
         let kind = kind_of(*byte);
         let Some(next) = phase.next(kind) else {
-            return Err(DecimalError::BadByte(place as u32));
+            return Err(Decimal::BadByte(place as u32));
         };
         number = number.with(next, kind);
         phase = next;
@@ -198,6 +198,6 @@ pub fn scan(bytes: &[u8]) -> Result<Number, DecimalError>
     if phase.is_complete() {
         Ok(number)
     } else {
-        Err(DecimalError::NoDigit)
+        Err(Decimal::NoDigit)
     }
 }

@@ -44,8 +44,8 @@ static AUDITED: [Row; 12] = [
 const NOZZLE: Verdict = Verdict::Collides(Hit {
     earlier: 0,
     later: 1,
-    earlier_band: 0,
-    later_band: 0,
+    c: 0,
+    b: 0,
     part: 1,
 });
 
@@ -107,7 +107,7 @@ fn first_contact(job: &Job, i: u32, j: u32, part: u32) -> Option<Contact>
     if earlier.is_empty() || later.is_empty() {
         return None;
     }
-    if !zones_meet(&earlier[0], &parts[part as usize], &later[0]) {
+    if !zones_meet(&parts[part as usize], &later[0], &earlier[0]) {
         return None;
     }
     Some(Contact {

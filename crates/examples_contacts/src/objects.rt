@@ -148,8 +148,8 @@ pub fn is_contact(job: &Job, contact: &Contact) -> bool
         return false;
     }
     zones_meet(
-        &earlier[contact.zi as usize],
         &parts[contact.part as usize],
         &later[contact.zj as usize],
+        &earlier[contact.zi as usize],
     )
 }

@@ -3,7 +3,7 @@ ghost use Rattle.pair_constraints.specs.KeptSides.{AreKeptSides};
 
 use crate::objects::{is_contact, job, two_cubes};
 use pair_constraints::{
-    Contacts, Kept, KeptSides, Limit, SolvedPoint, collides, first_contact, keep,
+    Contacts, Kept, KeptSides, Limit, SolvedPoint, collides, keep, next_contact,
 };
 use seq_model::{Contact, Dir, Job, Place};
 use std::alloc::Global;
@@ -176,9 +176,9 @@ fn first_of(job: &Job, is_tower_first: bool, at: (i64, i64), scale: u32) -> Opti
     }
     let scale = i128::from(scale);
     if is_tower_first {
-        return first_contact(job, &place(1, (0, 0)), &place(0, at), scale);
+        return next_contact(job, &place(1, (0, 0)), &place(0, at), scale);
     }
-    first_contact(job, &place(0, (0, 0)), &place(1, at), scale)
+    next_contact(job, &place(0, (0, 0)), &place(1, at), scale)
 }
 
 #[test]

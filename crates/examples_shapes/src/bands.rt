@@ -69,7 +69,7 @@ fn zones_meet_by(
     earlier: (u32, u32),
 ) -> Result<bool, AllocError> {
     let part = part(alloc, lo, hi)?;
-    Ok(zones_meet(&zone(alloc, earlier), &part, &zone(alloc, later)))
+    Ok(zones_meet(&part, &zone(alloc, later), &zone(alloc, earlier)))
 }
 
 #[test]

@@ -1,7 +1,7 @@
 ghost use Rattle.std.specs.Prelude.{OnOk, All};
 ghost use Rattle.seq_model.specs.Bounds.{IsNear, IsNearFacet};
 
-use mesh_slices::{SliceError, object};
+use mesh_slices::{Slice, object};
 use owned_lists::{Items, Text};
 use seq_model::{Facet, Mesh, Object, Part, Point3, Printer, Spot, Zone};
 use std::alloc::{AllocError, Global};
@@ -93,9 +93,9 @@ static SLICED: [Sliced; 7] = [
 ];
 
 // Solids whose mesh isn't sliced, and why.
-static REFUSED: [(&[Solid], SliceError); 2] = [
-    (&[], SliceError::NoFacet),
-    (&[(SQUARE, 0, 201, None)], SliceError::TooTall(201)),
+static REFUSED: [(&[Solid], Slice); 2] = [
+    (&[], Slice::Flat),
+    (&[(SQUARE, 0, 201, None)], Slice::TooTall(201)),
 ];
 
 fn point(place: (u8, u8), z: u8) -> Point3
@@ -265,10 +265,10 @@ fn are_runs(zones: &[Zone], runs: &[Run]) -> bool {
     true
 }
 
-fn sliced(alloc: Global, solids: &[Solid]) -> Result<Object, SliceError> {
+fn sliced(alloc: Global, solids: &[Solid]) -> Result<Object, Slice> {
     let printer = printer_of(alloc)?;
     let Some(mesh) = mesh_of(alloc, solids)? else {
-        return Err(SliceError::NoMemory);
+        return Err(Slice::NoMemory);
     };
     object(alloc, "solid", &mesh, &printer)
 }

@@ -1,7 +1,7 @@
-use decimal_lengths::DecimalError::{BadByte, Empty, NoDigit, TooFar, TooLong};
-use decimal_lengths::{DecimalError, read_um, write_um};
+use decimal_lengths::Decimal::{BadByte, Empty, NoDigit, TooFar, TooLong};
+use decimal_lengths::{Decimal, read_um, write_um};
 
-static READ: [(&[u8], Result<i64, DecimalError>); 64] = [
+static READ: [(&[u8], Result<i64, Decimal>); 64] = [
     (b"1.0005", Ok(1001)),
     (b"-1.0005", Ok(-1001)),
     (b"5e-4", Ok(1)),

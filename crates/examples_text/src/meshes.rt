@@ -1,15 +1,15 @@
 //! The grammar by examples: each refusal with its place, and meshes with how many facets they keep and drop.
 
-use decimal_lengths::DecimalError::{BadByte, Empty, NoDigit, TooFar, TooLong};
+use decimal_lengths::Decimal::{BadByte, Empty, NoDigit, TooFar, TooLong};
 use seq_model::{Facet, Point3};
 use std::alloc::Global;
 use stl_text::Keyword::{
     Endfacet, Endloop, FacetOrEndsolid, Loop, Normal, NormalWord, Outer, Solid, Vertex,
 };
-use stl_text::StlError::{Binary, Expected, NoFacet, Number};
-use stl_text::{StlError, read_mesh};
+use stl_text::Stl::{Binary, Expected, NoFacet, Number};
+use stl_text::{Stl, read_mesh};
 
-static MALFORMED: [(&[u8], StlError); 45] = [
+static MALFORMED: [(&[u8], Stl); 45] = [
     // the first line of a solid
     (b"", Expected(Solid, 0)),
     (b" \t\r\n", Expected(Solid, 4)),

@@ -1,5 +1,5 @@
-use plan_text::PlanError::{Line, Missing, Trailing};
-use plan_text::{PlanError, PlanFile, State, read_plan, write_plan};
+use plan_text::PlanRead::{Line, Missing, Trailing};
+use plan_text::{PlanFile, PlanRead, State, read_plan, write_plan};
 use seq_model::Place;
 use seq_model::What::{Extent, Grid, Header, Place as PlaceLine, Scale, State as StateLine};
 use std::alloc::{AllocError, Global};
@@ -8,7 +8,7 @@ use std::alloc::{AllocError, Global};
 static FOUND: &[u8] = b"seqplan 1\nstate found\ngrid 100\nextent 100\nscale 1\nplace 0 1 1\n";
 
 // The place where the lines of a plan end, or why it is refused.
-fn place_of(alloc: Global, text: &[u8]) -> Result<usize, PlanError> {
+fn place_of(alloc: Global, text: &[u8]) -> Result<usize, PlanRead> {
     Ok(read_plan(alloc, text)?.1)
 }
 
@@ -68,7 +68,7 @@ static READ: [(&[u8], usize); 8] = [
     ),
 ];
 
-static REFUSED: [(&[u8], PlanError); 56] = [
+static REFUSED: [(&[u8], PlanRead); 56] = [
     // the first line
     (b"", Missing),
     (b"seqplan 1", Missing),
@@ -231,7 +231,7 @@ static REFUSED: [(&[u8], PlanError); 56] = [
 ];
 
 // What follows sixteen place lines, and what is answered.
-static BEHIND_SIXTEEN: [(&[u8], Result<usize, PlanError>); 3] = [
+static BEHIND_SIXTEEN: [(&[u8], Result<usize, PlanRead>); 3] = [
     (b"", Ok(242)),
     (b"place 0 0 0", Err(Missing)),
     (b"place 0 0 0\n", Err(Line(22, PlaceLine))),
@@ -246,10 +246,10 @@ fn with_sixteen_places(alloc: Global, rest: &[u8]) -> Result<Vec<u8>, AllocError
     Ok(text)
 }
 
-fn behind_sixteen(alloc: Global, rest: &[u8]) -> Result<usize, PlanError> {
+fn behind_sixteen(alloc: Global, rest: &[u8]) -> Result<usize, PlanRead> {
     match with_sixteen_places(alloc, rest) {
         Ok(text) => place_of(alloc, &text),
-        Err(_) => Err(PlanError::NoMemory),
+        Err(_) => Err(PlanRead::NoMemory),
     }
 }
 

@@ -1,4 +1,4 @@
-use printer_text::{Key, PrinterError, key_text, read_printer};
+use printer_text::{Key, Prn, key_text, read_printer};
 use seq_model::{Part, Printer, Spot};
 use std::alloc::{AllocError, Global};
 
@@ -456,28 +456,28 @@ static P1_PARTS: [Listed; 3] = [
     ),
 ];
 
-fn wanted(refusal: Option<&PrinterError>) -> Option<Want<'_>> {
+fn wanted(refusal: Option<&Prn>) -> Option<Want<'_>> {
     match refusal? {
-        PrinterError::Toml => Some(Want::Toml),
-        PrinterError::Missing(key, number) => Some(Want::Missing(*key, *number)),
-        PrinterError::Kind(key, number) => Some(Want::Kind(*key, *number)),
-        PrinterError::FloatLength(key, number) => Some(Want::FloatLength(*key, *number)),
-        PrinterError::Number(key, number) => Some(Want::Number(*key, *number)),
-        PrinterError::Range(key, number) => Some(Want::Range(*key, *number)),
-        PrinterError::OffGrain(key, number) => Some(Want::OffGrain(*key, *number)),
-        PrinterError::TooManyParts => Some(Want::TooManyParts),
-        PrinterError::Unknown(text, number) => Some(Want::Unknown(text.as_str(), *number)),
-        PrinterError::NoMemory => None,
+        Prn::Toml => Some(Want::Toml),
+        Prn::Missing(key, number) => Some(Want::Missing(*key, *number)),
+        Prn::Kind(key, number) => Some(Want::Kind(*key, *number)),
+        Prn::FloatLength(key, number) => Some(Want::FloatLength(*key, *number)),
+        Prn::Number(key, number) => Some(Want::Number(*key, *number)),
+        Prn::Range(key, number) => Some(Want::Range(*key, *number)),
+        Prn::OffGrain(key, number) => Some(Want::OffGrain(*key, *number)),
+        Prn::TooManyParts => Some(Want::TooManyParts),
+        Prn::Unknown(text, number) => Some(Want::Unknown(text.as_str(), *number)),
+        Prn::NoMemory => None,
     }
 }
 
-fn read(alloc: Global, first: &str, rest: &[u8]) -> Result<Printer, PrinterError> {
+fn read(alloc: Global, first: &str, rest: &[u8]) -> Result<Printer, Prn> {
     let Ok(mut text) = Vec::from_slice(alloc, first.as_bytes()) else {
-        return Err(PrinterError::NoMemory);
+        return Err(Prn::NoMemory);
     };
     match text.extend_from_slice(rest) {
         Ok(()) => read_printer(alloc, &text),
-        Err(_) => Err(PrinterError::NoMemory),
+        Err(_) => Err(Prn::NoMemory),
     }
 }
 

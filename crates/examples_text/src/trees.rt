@@ -1,6 +1,6 @@
-use cert_text::BlockError::{Big, Line, Truncated};
+use cert_text::CertRead::{Big, Line, Truncated};
 use cert_text::Kind::{Certificate, OpenBudget, OpenWide};
-use cert_text::{BlockError, Kind, read_tree, write_tree};
+use cert_text::{CertRead, Kind, read_tree, write_tree};
 use seq_model::What::{After, Extent, Header, Node, Range, Wide as WideLine};
 use std::alloc::{AllocError, Global};
 
@@ -9,7 +9,7 @@ static TWO_CUBES: &[u8] =
     b"certificate 1\nexcludes 45\norder 0 1\nside 0 0 1 0 1 4\nbound 2:1 4:1\nbound 3:1 4:1\nbound 0:1 4:1\nbound 1:1 4:1\nside 1 0 1 0 0 4\nbound 0:1 4:1\nbound 1:1 4:1\nbound 2:1 4:1\nbound 3:1 4:1\n";
 
 // How many nodes a block has, or why it is refused.
-fn nodes_of(alloc: Global, text: &[u8], kind: Kind) -> Result<usize, BlockError> {
+fn nodes_of(alloc: Global, text: &[u8], kind: Kind) -> Result<usize, CertRead> {
     Ok(read_tree(alloc, text, kind)?.1.nodes.len())
 }
 
@@ -60,7 +60,7 @@ fn every_proper_prefix_is_truncated(rt: HostRuntime) {
 }
 
 // what stands behind `certificate 1`, and why it is refused
-static REFUSED: [(&[u8], BlockError); 40] = [
+static REFUSED: [(&[u8], CertRead); 40] = [
     // the extent
     (b"tried 45\n", Line(2, Extent)),
     (b"excludes 0\n", Line(2, Extent)),
@@ -134,10 +134,10 @@ fn certificate(alloc: Global, rest: &[u8]) -> Result<Vec<u8>, AllocError> {
     Ok(text)
 }
 
-fn nodes_behind(alloc: Global, rest: &[u8]) -> Result<usize, BlockError> {
+fn nodes_behind(alloc: Global, rest: &[u8]) -> Result<usize, CertRead> {
     match certificate(alloc, rest) {
         Ok(text) => nodes_of(alloc, &text, Certificate),
-        Err(_) => Err(BlockError::NoMemory),
+        Err(_) => Err(CertRead::NoMemory),
     }
 }
 
@@ -149,7 +149,7 @@ fn blocks_are_refused(rt: HostRuntime) {
 }
 
 // blocks of any kind, and why they are refused
-static OF_A_KIND: [(&[u8], Kind, BlockError); 14] = [
+static OF_A_KIND: [(&[u8], Kind, CertRead); 14] = [
     (b"", Certificate, Truncated),
     (b"certificate 2\n", Certificate, Line(1, Header)),
     (

@@ -1,5 +1,5 @@
 use owned_lists::{Items, Text};
-use seq_words::{Command, Opt, WordsError, read};
+use seq_words::{Command, Opt, Words, read};
 use std::alloc::{AllocError, Global};
 
 // A command with its files: the printer, then the plan where it has one, and the meshes.
@@ -91,76 +91,73 @@ static ACCEPTED: [(&str, Want); 20] = [
 ];
 
 // A line of words, and why it is refused.
-static REFUSED: [(&str, WordsError); 36] = [
-    ("", WordsError::Unknown),
-    ("arrang p.toml a.stl", WordsError::Unknown),
-    ("--help", WordsError::Unknown),
-    ("arrange", WordsError::Usage),
-    ("arrange p.toml", WordsError::Usage),
-    ("arrange --help p.toml a.stl", WordsError::Usage),
-    ("arrange p.toml a.stl -h", WordsError::Usage),
-    ("arrange --least p.toml a.stl --least", WordsError::Usage),
-    (
-        "arrange --budget 5 --budget=5 p.toml a.stl",
-        WordsError::Usage,
-    ),
-    ("arrange p.toml a.stl --budget", WordsError::Usage),
-    ("arrange --budget -5 p.toml a.stl", WordsError::Usage),
-    ("arrange --budget -- p.toml a.stl", WordsError::Usage),
-    ("arrange --least=yes p.toml a.stl", WordsError::Usage),
-    ("arrange --leas p.toml a.stl", WordsError::Usage),
+static REFUSED: [(&str, Words); 36] = [
+    ("", Words::Unknown),
+    ("arrang p.toml a.stl", Words::Unknown),
+    ("--help", Words::Unknown),
+    ("arrange", Words::Usage),
+    ("arrange p.toml", Words::Usage),
+    ("arrange --help p.toml a.stl", Words::Usage),
+    ("arrange p.toml a.stl -h", Words::Usage),
+    ("arrange --least p.toml a.stl --least", Words::Usage),
+    ("arrange --budget 5 --budget=5 p.toml a.stl", Words::Usage),
+    ("arrange p.toml a.stl --budget", Words::Usage),
+    ("arrange --budget -5 p.toml a.stl", Words::Usage),
+    ("arrange --budget -- p.toml a.stl", Words::Usage),
+    ("arrange --least=yes p.toml a.stl", Words::Usage),
+    ("arrange --leas p.toml a.stl", Words::Usage),
     (
         "arrange --budget 0 p.toml a.stl",
-        WordsError::BadNumber(Opt::Budget),
+        Words::BadNumber(Opt::Budget),
     ),
     (
         "arrange --budget 1000001 p.toml a.stl",
-        WordsError::BadNumber(Opt::Budget),
+        Words::BadNumber(Opt::Budget),
     ),
     (
         "arrange --budget=00000000001 p.toml a.stl",
-        WordsError::BadNumber(Opt::Budget),
+        Words::BadNumber(Opt::Budget),
     ),
     (
         "arrange --budget= p.toml a.stl",
-        WordsError::BadNumber(Opt::Budget),
+        Words::BadNumber(Opt::Budget),
     ),
     (
         "arrange --budget=-5 p.toml a.stl",
-        WordsError::BadNumber(Opt::Budget),
+        Words::BadNumber(Opt::Budget),
     ),
     (
         "arrange --budget +5 p.toml a.stl",
-        WordsError::BadNumber(Opt::Budget),
+        Words::BadNumber(Opt::Budget),
     ),
-    ("check p.toml plan", WordsError::Usage),
-    ("check p.toml plan a.stl --strict", WordsError::Usage),
-    ("audit p.toml", WordsError::Usage),
-    ("slices p.toml", WordsError::Usage),
-    ("slices p.toml a.stl b.stl", WordsError::Usage),
-    ("trial 1", WordsError::Usage),
-    ("trial 1 -1", WordsError::Usage),
-    ("trial 0 0", WordsError::BadNumber(Opt::K)),
-    ("trial 17 x", WordsError::BadNumber(Opt::K)),
-    ("trial  0", WordsError::BadNumber(Opt::K)),
-    ("trial 1 4294967296", WordsError::BadNumber(Opt::N)),
-    ("trial -- 1 -1", WordsError::BadNumber(Opt::N)),
+    ("check p.toml plan", Words::Usage),
+    ("check p.toml plan a.stl --strict", Words::Usage),
+    ("audit p.toml", Words::Usage),
+    ("slices p.toml", Words::Usage),
+    ("slices p.toml a.stl b.stl", Words::Usage),
+    ("trial 1", Words::Usage),
+    ("trial 1 -1", Words::Usage),
+    ("trial 0 0", Words::BadNumber(Opt::K)),
+    ("trial 17 x", Words::BadNumber(Opt::K)),
+    ("trial  0", Words::BadNumber(Opt::K)),
+    ("trial 1 4294967296", Words::BadNumber(Opt::N)),
+    ("trial -- 1 -1", Words::BadNumber(Opt::N)),
     // a seventeenth mesh
     (
         "arrange p 1 2 3 4 5 6 7 8 9 10 11 12 13 14 15 16 17",
-        WordsError::TooMany,
+        Words::TooMany,
     ),
     (
         "arrange --budget 0 p 1 2 3 4 5 6 7 8 9 10 11 12 13 14 15 16 17",
-        WordsError::BadNumber(Opt::Budget),
+        Words::BadNumber(Opt::Budget),
     ),
     (
         "check p q 1 2 3 4 5 6 7 8 9 10 11 12 13 14 15 16 17",
-        WordsError::TooMany,
+        Words::TooMany,
     ),
     (
         "audit p q 1 2 3 4 5 6 7 8 9 10 11 12 13 14 15 16 17",
-        WordsError::TooMany,
+        Words::TooMany,
     ),
 ];
 
@@ -172,10 +169,10 @@ fn words_of(alloc: Global, line: &str) -> Result<Vec<String>, AllocError> {
     Ok(words)
 }
 
-fn command_of(alloc: Global, line: &str) -> Result<Command, WordsError> {
+fn command_of(alloc: Global, line: &str) -> Result<Command, Words> {
     match words_of(alloc, line) {
         Ok(words) => read(alloc, &words),
-        Err(_) => Err(WordsError::NoMemory),
+        Err(_) => Err(Words::NoMemory),
     }
 }
 
@@ -265,5 +262,5 @@ fn words_are_refused_with_their_cause(rt: HostRuntime) {
         assert!(rt; command_of(rt.alloc(), line).err() == Some(*want));
     }
     let none: Vec<String> = Vec::new(rt.alloc());
-    assert!(rt; read(rt.alloc(), &none).err() == Some(WordsError::Unknown));
+    assert!(rt; read(rt.alloc(), &none).err() == Some(Words::Unknown));
 }

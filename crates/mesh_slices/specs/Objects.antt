@@ -22,8 +22,8 @@ use Rattle.seq_model.specs.Points.{Point, at_spot}
 use Rattle.seq_model.specs.Scenes.{Spans}
 use Rattle.seq_model.specs.Soundness.{IsSoundObject}
 use Rattle.outline_laws.specs.Corners.{AreCorners}
-use Rattle.mesh_slices.specs.declared.slice.SliceError.{SliceError}
-use Rattle.mesh_slices.specs.declared.slice.SliceError.TheVariants.{NoFacet, TooTall, NoMemory}
+use Rattle.mesh_slices.specs.declared.slice.Slice.{Slice}
+use Rattle.mesh_slices.specs.declared.slice.Slice.TheVariants.{Flat, TooTall, NoMemory}
 use Rattle.seq_limits.specs.declared.TheConstants.{MOST_BANDS}
 
 -- the spots of a mesh in band b
@@ -79,7 +79,7 @@ pub record IsTooTall (facets : List Facet) (step : ℤ) (bands : ℕ) : Type 0 w
   pub many : MOST_BANDS < bands
 
 -- why a mesh isn't sliced: it has no facet; or more than 200 bands, and then their number; or it could be, but for want of memory
-abbrev pub IsRefusedAs : List Facet → ℤ → SliceError → Type 0
-IsRefusedAs facets step NoFacet = facets ≡ []
+abbrev pub IsRefusedAs : List Facet → ℤ → Slice → Type 0
+IsRefusedAs facets step Flat = facets ≡ []
 IsRefusedAs facets step (TooTall bands) = IsTooTall facets step bands
 IsRefusedAs facets step NoMemory = CanBeSliced facets step

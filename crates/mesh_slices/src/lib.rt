@@ -26,4 +26,4 @@ mod slice;
 mod zones;
 
 pub use objects::object;
-pub use slice::SliceError;
+pub use slice::Slice;

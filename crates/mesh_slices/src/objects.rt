@@ -2,7 +2,7 @@ ghost use Rattle.std.specs.Prelude.{◌≡◌, ◌≤◌, ◌↔◌, [], IsTrue,
 ghost use Rattle.mesh_slices.specs.Cover.{ZonesCover};
 ghost use Rattle.mesh_slices.specs.Objects.{IsObjectOf, CanBeSliced, IsRefusedAs};
 
-use crate::SliceError;
+use crate::Slice;
 use crate::measure::measure_of;
 use crate::zones::zones_of;
 use owned_lists::{Items, Text};
@@ -26,14 +26,9 @@ fn has_no_facet(facets: &[Facet]) -> bool
 
 /// The object of a mesh: its height in µm, its bands, and their zones with corners in grains.
 ///
-/// `NoFacet` comes exactly where the mesh has no facet, and `TooTall`, with the number of bands, exactly where it has one and more
+/// `Flat` comes exactly where the mesh has no facet, and `TooTall`, with the number of bands, exactly where it has one and more
 /// than 200 bands. Both come before any memory is asked for, so `NoMemory` speaks of a mesh that could be sliced.
-pub fn object(
-    alloc: Global,
-    name: &str,
-    mesh: &Mesh,
-    printer: &Printer,
-) -> Result<Object, SliceError>
+pub fn object(alloc: Global, name: &str, mesh: &Mesh, printer: &Printer) -> Result<Object, Slice>
     ensures object { IfOk result (IsObjectOf name.now mesh.now.facets printer.now) }
     ensures covers { IfOk result (ZonesCover printer.now mesh.now.facets) }
     ensures sliced { IfOk result (λ _. CanBeSliced mesh.now.facets printer.now.step) }
@@ -41,11 +36,11 @@ pub fn object(
 {
     let facets = mesh.facets.as_slice();
     if has_no_facet(facets) {
-        return Err(SliceError::NoFacet);
+        return Err(Slice::Flat);
     }
     let measure = measure_of(printer, facets);
     if measure.bands > u64::from(MOST_BANDS) {
-        return Err(SliceError::TooTall(measure.bands));
+        return Err(Slice::TooTall(measure.bands));
     }
     let bands = few_bands(measure.bands);
     let zones = zones_of(alloc, facets, printer, measure.bottom, bands)?;

@@ -84,8 +84,8 @@ fn fold(alloc: Global, found: &mut Vec<Spot>) -> Result<(), NoMemory>
     Ok(())
 }
 
-// Folds the spots if they are 2,050 at least, and at least two more than twice as many as were kept by the last fold. Answers how
-// many are kept by it, and without a fold `kept` as it was, for the next time.
+// Folds the spots if they are 2,050 at least, and more than twice as many as were kept by the last fold. Answers how many are
+// kept by it, and without a fold `kept` as it was, for the next time.
 fn fold_if_full(alloc: Global, found: &mut Vec<Spot>, kept: usize) -> Result<usize, NoMemory>
     requires { All IsNarrow found.old.items }
     ensures stand { OnOk result (StandsFor found.old.items found.new.items) }

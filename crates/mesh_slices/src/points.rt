@@ -24,7 +24,7 @@ fn part_of(x: i64, rise: i64) -> i64
 }
 
 // The mean of two coordinates, times the sum of their weights, each of which is a difference of heights.
-fn weighted_sum(a: i64, weight_a: i64, b: i64, weight_b: i64) -> i64
+fn mean_of(a: i64, weight_a: i64, b: i64, weight_b: i64) -> i64
     requires a { unsigned_abs a ≤ FARTHEST }
     requires weight_a { unsigned_abs weight_a ≤ 20_000_000 }
     requires b { unsigned_abs b ≤ FARTHEST }
@@ -55,8 +55,8 @@ fn crossing_of(height: i64, under: &Point3, over: &Point3) -> CornerPoint
 {
     let up = rise_of(height, over.z);
     let down = rise_of(under.z, height);
-    let x = weighted_sum(under.x, up, over.x, down);
-    let y = weighted_sum(under.y, up, over.y, down);
+    let x = mean_of(under.x, up, over.x, down);
+    let y = mean_of(under.y, up, over.y, down);
     let d = rise_of(under.z, over.z);
     CornerPoint { x, y, d }
 }

@@ -4,7 +4,7 @@ use Rattle.std.proofs.lemmas.Bool.{cases_lt}
 use Rattle.std.proofs.lemmas.List.{get_or_default}
 use Rattle.integer_laws.specs.Laws.Members.{In-map_cases, Contains-from_in}
 use Rattle.model_laws.specs.Laws.Collisions.{collides_by_contact}
-use Rattle.node_looks.specs.Candidates.{IsHit, IsSomeHit}
+use Rattle.node_looks.specs.Candidates.{IsHit, IsNearest}
 use Rattle.node_looks.specs.Sites.{ContactHits, Hits, IsSite, values}
 use Rattle.node_looks.specs.declared.hits.Hit.{Hit}
 use Rattle.node_looks.specs.declared.site.Site.{Site}
@@ -46,7 +46,7 @@ none_hits job e at i j kept one pair apart none hits =
 
 -- ---- one contact more
 pub nearest_past : (site : Site) (i j k : ℕ) (kept : List Kept) (best : Option Hit) (x : Kept) → k < length kept → get_or kept k x ≡ x → (ContactHits site x.contact → ⊥)
-    → IsSomeHit site i j k kept best → IsSomeHit site i j (k + 1) kept best
+    → IsNearest site i j k kept best → IsNearest site i j (k + 1) kept best
 nearest_past site i j k kept (Some h) x l is clear near = near
 nearest_past site i j k kept None x l is clear near = λ m d below. by m d below
   where
@@ -61,7 +61,7 @@ nearest_past site i j k kept None x l is clear near = λ m d below. by m d below
         which (inr h) = λ hits. clear (subst (λ (t : Kept). ContactHits site t.contact) (at_end h) hits)
 
 pub nearest_more : (site : Site) (i j k n : ℕ) (kept : List Kept) (best : Option Hit) (new : Hit) (hit : Hit) → IsHit site i j hit.kept.now → (new ≡ hit) ⊎ (Some new ≡ best)
-    → IsSomeHit site i j k kept best → IsSomeHit site i j n kept (Some new)
+    → IsNearest site i j k kept best → IsNearest site i j n kept (Some new)
 nearest_more site i j k n kept best new hit is (inl same) near = subst (λ (h : Hit). IsHit site i j h.kept.now) (sym same) is
 nearest_more site i j k n kept None new hit is (inr same) near = absurd (some_none same)
   where
@@ -72,7 +72,7 @@ nearest_more site i j k n kept (Some old) new hit is (inr same) near = subst (λ
     some_same : {x y : Hit} → Some x ≡ Some y → x ≡ y
     some_same e = cc
 
-pub some_hit : (site : Site) (i j : ℕ) (kept : List Kept) (best : Option Hit) → IsSite site → IsPair site.job.now i j kept → i ≢ j → IsSomeHit site i j (length kept) kept best
+pub nearest_hit : (site : Site) (i j : ℕ) (kept : List Kept) (best : Option Hit) → IsSite site → IsPair site.job.now i j kept → i ≢ j → IsNearest site i j (length kept) kept best
     → MatchOption best (Hits site i j → ⊥) (λ h. IsHit site i j h.kept.now)
-some_hit site i j kept None is pair apart near = none_hits site.job.now site.extent (values site) i j kept is.point.one pair apart near
-some_hit site i j kept (Some h) is pair apart near = near
+nearest_hit site i j kept None is pair apart near = none_hits site.job.now site.extent (values site) i j kept is.point.one pair apart near
+nearest_hit site i j kept (Some h) is pair apart near = near

@@ -30,7 +30,7 @@ use Rattle.seq_model.specs.declared.tree.Choice.TheVariants as Choices
 use Rattle.seq_model.specs.declared.tree.Contact.{Contact}
 use Rattle.seq_model.specs.declared.tree.Dir.{Dir}
 use Rattle.seq_model.specs.declared.tree.Mult.{Mult}
-use Rattle.warm_rows.specs.Warming.{AddsPivots, ArePivots, IsRowStep, IsWarmZeroPoint, Repairs, Warmth, row_of, rows_of}
+use Rattle.warm_rows.specs.Warming.{AddsPivots, ArePivots, IsRowStep, IsZeroPoint, Repairs, Warmth, row_of, rows_of}
 use Rattle.warm_rows.specs.declared.step.Step.{Step}
 use Rattle.warm_rows.specs.declared.step.Step.TheVariants as Steps
 use Rattle.warm_rows.specs.declared.step.Warmed.{Warmed}
@@ -369,6 +369,6 @@ repaired_is old new n rows (Warmeds.Contradiction list) vars same r = (
 repaired_is old new n rows Warmeds.Cold vars same r = tt
 
 pub zero_repaired : {E : Type 0} (r : Result Warmed E) (old : Warmth) (n : ℕ) (rows : List Row) → old.vars ≡ n → rows_of old.steps ≡ rows
-    → (MeetsRows (rows_of old.steps) (pos 1) (zeros old.vars) → IfOk r (IsWarmZeroPoint old.vars)) → MeetsRows rows (pos 1) (zeros n) → IfOk r (IsWarmZeroPoint n)
+    → (MeetsRows (rows_of old.steps) (pos 1) (zeros old.vars) → IfOk r (IsZeroPoint old.vars)) → MeetsRows rows (pos 1) (zeros n) → IfOk r (IsZeroPoint n)
 zero_repaired r old n rows vars same zero meets =
-    subst (λ (v : ℕ). IfOk r (IsWarmZeroPoint v)) vars (zero (subst (λ (v : ℕ). MeetsRows (rows_of old.steps) (pos 1) (zeros v)) (sym vars) (subst (λ (s : List Row). MeetsRows s (pos 1) (zeros n)) (sym same) meets)))
+    subst (λ (v : ℕ). IfOk r (IsZeroPoint v)) vars (zero (subst (λ (v : ℕ). MeetsRows (rows_of old.steps) (pos 1) (zeros v)) (sym vars) (subst (λ (s : List Row). MeetsRows s (pos 1) (zeros n)) (sym same) meets)))

@@ -3,7 +3,7 @@
 --   choices_of k           the choices of a contact's sides, in their order
 --   IsHit s i j k          a kept contact of i as the earlier object and j, which collides
 --   NoneHits s n kept      none of the first n kept contacts collides
---   IsSomeHit s i j n kept best   the best one of them is a hit, or none collides
+--   IsNearest s i j n kept best   the best one of them is a hit, or none collides
 --   IsOpenable s k         a kept contact that collides, of an order of the path
 --   IsCandidate s c        a split that could be made: a contact that may be opened, or an unordered pair that collides both ways
 --   IsForcedOrder s o      the order is forced, and its two objects are unordered on the path
@@ -43,9 +43,9 @@ pub record IsHit (s : Site) (i j : ℕ) (k : Kept) : Type 0 where
 abbrev pub NoneHits : Site → ℕ → List Kept → Type 0
 NoneHits s n kept = (m : ℕ) (d : Kept) → m < n → ContactHits s (slice_index_or kept m d).contact → ⊥
 
-abbrev pub IsSomeHit : Site → ℕ → ℕ → ℕ → List Kept → Option Hit → Type 0
-IsSomeHit s i j n kept None = NoneHits s n kept
-IsSomeHit s i j n kept (Some hit) = IsHit s i j hit.kept.now
+abbrev pub IsNearest : Site → ℕ → ℕ → ℕ → List Kept → Option Hit → Type 0
+IsNearest s i j n kept None = NoneHits s n kept
+IsNearest s i j n kept (Some hit) = IsHit s i j hit.kept.now
 
 pub record IsOpenable (s : Site) (k : Kept) : Type 0 where
   pub kept : IsKept s.job.now k

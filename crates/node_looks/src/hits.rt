@@ -1,7 +1,7 @@
 //! Whether an object collides with a later one at a point, by their maximal contacts.
 
 ghost use Rattle.std.specs.Prelude.{◌≡◌, ◌≢◌, ℕ, ◌+◌, ◌<◌, ◌⊎◌, List, length, slice_index_or, MatchOption, Some};
-ghost use Rattle.node_looks.specs.Candidates.{IsHit, IsSomeHit};
+ghost use Rattle.node_looks.specs.Candidates.{IsHit, IsNearest};
 ghost use Rattle.node_looks.specs.Sites.{Hits, IsSite};
 ghost use Rattle.pair_constraints.specs.Keeping.{IsKept};
 ghost use Rattle.pair_constraints.specs.Maximal.{IsOf, IsPair};
@@ -38,8 +38,8 @@ fn with_contact<'a>(best: Option<Hit<'a>>, site: &Site<'a>, kept: &'a Kept) -> O
     requires site { IsSite site.now }
     requires kept { IsKept site.now.job.now kept.now }
     ensures { (i j k : ℕ) (pair : List Kept) → k < length pair → slice_index_or pair k kept.now ≡ kept.now
-        → IsOf site.now.job.now i j kept.now.contact → IsSomeHit site.now i j k pair best.entry
-        → IsSomeHit site.now i j (k + 1) pair result }
+        → IsOf site.now.job.now i j kept.now.contact → IsNearest site.now i j k pair best.entry
+        → IsNearest site.now i j (k + 1) pair result }
 {
     if !kept.collides_at(site.job, &site.at) {
         return best;
@@ -55,7 +55,7 @@ fn with_contact<'a>(best: Option<Hit<'a>>, site: &Site<'a>, kept: &'a Kept) -> O
 fn cheapest_hit<'a>(site: &Site<'a>, pair: &'a [Kept], i: u32, j: u32) -> Option<Hit<'a>>
     requires site { IsSite site.now }
     requires pair { IsPair site.now.job.now i j pair.now }
-    ensures { IsSomeHit site.now i j (length pair.now) pair.now result }
+    ensures { IsNearest site.now i j (length pair.now) pair.now result }
 {
     let mut best: Option<Hit<'a>> = None;
     for k in 0..pair.len() {

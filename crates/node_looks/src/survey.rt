@@ -44,7 +44,7 @@ pub(crate) struct Survey<'a> {
     pub forced: Vec<(u32, u32)>,
 }
 
-// The price of opening a contact: ten for each live side, and ten more from two sides on, where the tree branches.
+// What it costs to open a contact: one with at most one live side comes before all others.
 fn side_of<'a>(hit: &Hit<'a>) -> PairLook<'a>
     ensures { (price : ℕ) × (result ≡ PairLooks.Split (Candidates.Side hit.now.kept) price) }
 {
@@ -59,7 +59,7 @@ fn side_of<'a>(hit: &Hit<'a>) -> PairLook<'a>
     }
 }
 
-// The price of ordering a pair: as of a contact with the live sides of both, and one more where there is at most one.
+// What it costs to order a pair: the sum of what both orders cost, right behind where that is at most 1.
 fn order_of<'a>(i: u32, j: u32, there: &Hit<'a>, back: &Hit<'a>) -> PairLook<'a>
     ensures { (price : ℕ) × (result ≡ PairLooks.Split (Candidates.Order i j) price) }
 {

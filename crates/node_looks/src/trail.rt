@@ -12,7 +12,7 @@ ghost use Rattle.row_pivots.specs.Tables.{AreRowsOf};
 ghost use Rattle.seq_model.specs.Systems.{MeetsRows, system};
 ghost use Rattle.seq_model.specs.Trees.{IsPath};
 ghost use Rattle.seq_model.specs.declared.tree.Choice.TheVariants as Choices;
-ghost use Rattle.warm_rows.specs.Warming.{IsRowStep, IsWarmZeroPoint};
+ghost use Rattle.warm_rows.specs.Warming.{IsRowStep, IsZeroPoint};
 
 use crate::advice::bounds_room;
 use crate::system::{row_of_side, system_rows};
@@ -326,7 +326,7 @@ impl Trail {
         ensures is { IfOk result (IsWarmed (2 * length job.now.objects) (system job.now extent path.now)) }
         ensures zero { All IsRowStep self.old.warm.steps
             → MeetsRows (system job.now extent path.now) (pos 1) (zeros (2 * length job.now.objects))
-            → IfOk result (IsWarmZeroPoint (2 * length job.now.objects)) }
+            → IfOk result (IsZeroPoint (2 * length job.now.objects)) }
     {
         self.warm.repair(alloc)
     }

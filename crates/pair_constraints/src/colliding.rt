@@ -56,7 +56,7 @@ fn zones_hit(a: &Zone, b: &Zone, part: &Part, earlier: &Place, later: &Place, sc
     ensures { IsTrue result ↔ ZonesHit a.now part.now b.now
         (place_point scale earlier.now) (place_point scale later.now) }
 {
-    zones_meet(a, part, b) && zones_overlap(a, b, part, earlier, later, scale)
+    zones_meet(part, b, a) && zones_overlap(a, b, part, earlier, later, scale)
 }
 
 fn first_part(
@@ -138,7 +138,7 @@ fn first_pair(
 
 /// The first contact that collides with the earlier object and the later one at their places: by zone of the later, zone of the
 /// earlier, part. None exactly where the earlier object doesn't collide with the later one. Takes no memory.
-pub fn first_contact(job: &Job, earlier: &Place, later: &Place, scale: i128) -> Option<Contact>
+pub fn next_contact(job: &Job, earlier: &Place, later: &Place, scale: i128) -> Option<Contact>
     requires earlier { earlier.now.object < length job.now.objects }
     requires later { later.now.object < length job.now.objects }
     requires apart { earlier.now.object ≢ later.now.object }

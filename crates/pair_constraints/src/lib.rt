@@ -1,6 +1,6 @@
 //! Which contacts of two objects collide at their places, and which of them a search has to look at.
 //!
-//! `collides` says of a contact whether it collides, exactly, and `first_contact` which contact of two objects does first; None exactly
+//! `collides` says of a contact whether it collides, exactly, and `next_contact` which contact of two objects does first; None exactly
 //! where the objects don't collide. Both take no memory.
 //!
 //! `Contacts` has the maximal contacts of each ordered pair: of all its contacts those whose difference lies in no other's. Where a
@@ -24,7 +24,7 @@ mod settling;
 mod sides;
 mod testing;
 
-pub use colliding::{collides, first_contact};
+pub use colliding::{collides, next_contact};
 pub use contacts::Contacts;
 pub use kept::{Kept, Reach, keep, sides_of_contact};
 pub use laws::{beyond_any_direction_is_out_of_reach, covered_contacts_need_no_opening};

@@ -83,7 +83,7 @@ fn zones_of_contact_meet(job: &Job, contact: &Contact) -> bool
     let a = &job.objects.as_slice()[contact.i as usize].zones.as_slice()[contact.zi as usize];
     let b = &job.objects.as_slice()[contact.j as usize].zones.as_slice()[contact.zj as usize];
     let part = &job.printer.parts.as_slice()[contact.part as usize];
-    zones_meet(a, part, b)
+    zones_meet(part, b, a)
 }
 
 // Whether it is a contact: it names objects, zones and a part, and these zones meet.

@@ -18,8 +18,7 @@ use crate::points::{SolvedPoint, narrow_step, small_product, wide_step};
 use outline_edges::limit_at;
 use seq_model::{Job, RatPoint};
 
-// By how far the later object stands ahead of the earlier one, with the contact's shift: x / d and y / d in grains, where 64 bits
-// hold what is made of them.
+// The gap of two objects, where 64 bits hold what is made of it.
 #[derive(Clone, Copy, Debug)]
 pub(crate) struct Gap {
     pub x: i64,
@@ -27,8 +26,7 @@ pub(crate) struct Gap {
     pub d: i64,
 }
 
-// Whether value / d is less than `most`.
-fn is_less(value: i64, most: i64, gap: &Gap) -> bool
+fn is_short(value: i64, most: i64, gap: &Gap) -> bool
     requires most { unsigned_abs most < 2 ^ 46 }
     requires gap { FitsGap gap.now }
     ensures { result ≡ int_lt value (most *ℤ gap.now.d) }
@@ -36,12 +34,12 @@ fn is_less(value: i64, most: i64, gap: &Gap) -> bool
     value < small_product(most, gap.d)
 }
 
-fn is_within_ahead(reach: &Reach, gap: &Gap) -> bool
+fn is_short_ahead(reach: &Reach, gap: &Gap) -> bool
     requires reach { FitsReach reach.now }
     requires gap { FitsGap gap.now }
     ensures { result ≡ is_ahead_in (point_of gap.now) reach.now }
 {
-    is_less(gap.x, reach.east, gap) && is_less(gap.y, reach.north, gap)
+    is_short(gap.x, reach.east, gap) && is_short(gap.y, reach.north, gap)
 }
 
 fn opposite(n: i64) -> i64
@@ -51,12 +49,12 @@ fn opposite(n: i64) -> i64
     -n
 }
 
-fn is_within_behind(reach: &Reach, gap: &Gap) -> bool
+fn is_short_behind(reach: &Reach, gap: &Gap) -> bool
     requires reach { FitsReach reach.now }
     requires gap { FitsGap gap.now }
     ensures { result ≡ is_behind_in (point_of gap.now) reach.now }
 {
-    is_less(opposite(gap.x), reach.west, gap) && is_less(opposite(gap.y), reach.south, gap)
+    is_short(opposite(gap.x), reach.west, gap) && is_short(opposite(gap.y), reach.south, gap)
 }
 
 fn is_in_reach(reach: &Reach, gap: &Gap) -> bool
@@ -64,7 +62,7 @@ fn is_in_reach(reach: &Reach, gap: &Gap) -> bool
     requires gap { FitsGap gap.now }
     ensures { result ≡ in_reach (point_of gap.now) reach.now }
 {
-    is_within_ahead(reach, gap) && is_within_behind(reach, gap)
+    is_short_ahead(reach, gap) && is_short_behind(reach, gap)
 }
 
 fn narrow_product(a: i64, b: i64) -> i64
@@ -93,7 +91,7 @@ fn is_below(limit: &Limit, gap: &Gap) -> bool
         narrow_product(limit.dir.x, gap.x),
         narrow_product(limit.dir.y, gap.y),
     );
-    is_less(value, limit.most, gap)
+    is_short(value, limit.most, gap)
 }
 
 fn is_below_all(limits: &[Limit], gap: &Gap) -> bool
@@ -118,7 +116,7 @@ fn meets_narrow(kept: &Kept, gap: &Gap) -> bool
     is_in_reach(&kept.reach, gap) && is_below_all(kept.limits.as_slice(), gap)
 }
 
-fn is_less_wide(value: i128, most: i64, gap: &RatPoint) -> bool
+fn is_within(value: i128, most: i64, gap: &RatPoint) -> bool
     requires most { unsigned_abs most < 2 ^ 46 }
     requires gap { FitsProducts gap.now }
     ensures { result ≡ int_lt value (most *ℤ gap.now.d) }
@@ -126,12 +124,12 @@ fn is_less_wide(value: i128, most: i64, gap: &RatPoint) -> bool
     value < limit_at(most, gap)
 }
 
-fn is_within_ahead_wide(reach: &Reach, gap: &RatPoint) -> bool
+fn is_within_ahead(reach: &Reach, gap: &RatPoint) -> bool
     requires reach { FitsReach reach.now }
     requires gap { FitsProducts gap.now }
     ensures { result ≡ is_ahead_in gap.now reach.now }
 {
-    is_less_wide(gap.x, reach.east, gap) && is_less_wide(gap.y, reach.north, gap)
+    is_within(gap.x, reach.east, gap) && is_within(gap.y, reach.north, gap)
 }
 
 fn wide_opposite(n: i128) -> i128
@@ -141,21 +139,21 @@ fn wide_opposite(n: i128) -> i128
     -n
 }
 
-fn is_within_behind_wide(reach: &Reach, gap: &RatPoint) -> bool
+fn is_within_behind(reach: &Reach, gap: &RatPoint) -> bool
     requires reach { FitsReach reach.now }
     requires gap { FitsProducts gap.now }
     ensures { result ≡ is_behind_in gap.now reach.now }
 {
-    is_less_wide(wide_opposite(gap.x), reach.west, gap)
-        && is_less_wide(wide_opposite(gap.y), reach.south, gap)
+    is_within(wide_opposite(gap.x), reach.west, gap)
+        && is_within(wide_opposite(gap.y), reach.south, gap)
 }
 
-fn is_in_reach_wide(reach: &Reach, gap: &RatPoint) -> bool
+fn is_in_wide_reach(reach: &Reach, gap: &RatPoint) -> bool
     requires reach { FitsReach reach.now }
     requires gap { FitsProducts gap.now }
     ensures { result ≡ in_reach gap.now reach.now }
 {
-    is_within_ahead_wide(reach, gap) && is_within_behind_wide(reach, gap)
+    is_within_ahead(reach, gap) && is_within_behind(reach, gap)
 }
 
 fn meets_wide(kept: &Kept, gap: &RatPoint) -> bool
@@ -164,7 +162,7 @@ fn meets_wide(kept: &Kept, gap: &RatPoint) -> bool
     requires gap { FitsProducts gap.now }
     ensures { result ≡ is_met gap.now kept.now }
 {
-    is_in_reach_wide(&kept.reach, gap) && all_below(kept.limits.as_slice(), gap)
+    is_in_wide_reach(&kept.reach, gap) && all_below(kept.limits.as_slice(), gap)
 }
 
 fn num_at(at: &SolvedPoint, variable: usize) -> i64

@@ -177,7 +177,7 @@ abbrev Numbers : Type 0
 Numbers = ℕ × (ℕ × (ℕ × (ℕ × ℕ)))
 
 abbrev numbers_of : Hit → Numbers
-numbers_of h = (h.earlier, (h.later, (h.later_band, (h.earlier_band, h.part))))
+numbers_of h = (h.earlier, (h.later, (h.b, (h.c, h.part))))
 
 hit_of : (scene : Scene) (scale : ℤ) (places : List Place) (s : Numbers) → pos 1 ≤ℤ scale → HitsAt scene scale places s → IsHit scene scale places (hit_by s)
 hit_of scene scale places s one h =

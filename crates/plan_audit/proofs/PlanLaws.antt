@@ -108,7 +108,7 @@ faultless_is_valid job e plan one grid scale stray absent off hit = record {
     apart i j less within k =
         let n = k.part_of_scene.0 in
         let is = any_default job.printer.parts n no_part k.part k.part_of_scene.1 ∙ k.part_of_scene.2 in
-        hit (record { earlier = i; later = j; earlier_band = k.c; later_band = k.b; part = n })
+        hit (record { earlier = i; later = j; c = k.c; b = k.b; part = n })
         (record {
           in_order = less;
           stands = within;
@@ -148,8 +148,8 @@ valid_has_none job e plan v = (
     hit : (h : Hit) → IsHit (scene_of_job job) plan.scale plan.places h → ⊥
     hit h x =
         v.apart h.earlier h.later no_place x.in_order x.stands (record {
-          b = h.later_band;
-          c = h.earlier_band;
+          b = h.b;
+          c = h.c;
           part = get_or job.printer.parts h.part no_part;
           band_of_later = x.band_of_later;
           band_of_earlier = x.band_of_earlier;
@@ -173,7 +173,7 @@ good_is_valid job e plan v is = (λ g. subst (IsVerdict (scene_of_job job) e pla
 hits_total : (g h : Hit) → (ComesBefore g h → ⊥) → (ComesBefore h g → ⊥) → g ≡ h
 hits_total g h e f =
     ap hit_by (sooner_total (Sooner (Sooner (Sooner Less))) (sooner_total (Sooner (Sooner Less)) (sooner_total (Sooner Less) (sooner_total Less less_total)))
-    (g.earlier, (g.later, (g.later_band, (g.earlier_band, g.part)))) (h.earlier, (h.later, (h.later_band, (h.earlier_band, h.part)))) e f)
+    (g.earlier, (g.later, (g.b, (g.c, g.part)))) (h.earlier, (h.later, (h.b, (h.c, h.part)))) e f)
 
 pub one_verdict : (job : Job) (e : ℕ) (plan : Plan) (v w : Verdict) → IsVerdict (scene_of_job job) e plan v → IsVerdict (scene_of_job job) e plan w → v ≡ w
 one_verdict job e plan Verdicts.Good w is that = sym (only_good job e plan w is that)

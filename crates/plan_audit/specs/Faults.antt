@@ -6,8 +6,8 @@
 --   IsAbsent scene places o       object o of the scene has no place
 --   HasSpotOff scene e D place    some spot of the place's object, moved by it over the scale D, lies outside the region
 --   IsOff scene e D places k      that is so of place k
---   IsHit scene D places h        the object of h's earlier place, in h's earlier band, collides with that of the later place, in h's
---                                 later band, by the part
+--   IsHit scene D places h        the object of h's earlier place, in its band c, collides with that of the later place, in its band b, by
+--                                 the part
 --   ComesBefore g h               by earlier place, later place, band of the later, band of the earlier, part
 --   FirstStray, FirstAbsent, FirstOff, FirstHit   the first of its kind, or None where there is none
 --   IsVerdict scene e plan v      v is Good and the plan is valid; or what v names is the first of its kind, and there is none of the
@@ -52,15 +52,15 @@ part_of scene k = slice_index_or scene.parts k no_part
 pub record IsHit (scene : Scene) (scale : ℤ) (places : List Place) (h : Hit) : Type 0 where
   pub in_order : h.earlier < h.later
   pub stands : h.later < length places
-  pub band_of_later : h.later_band < scene.bands (nth places h.later).object
-  pub band_of_earlier : h.earlier_band < scene.bands (nth places h.earlier).object
+  pub band_of_later : h.b < scene.bands (nth places h.later).object
+  pub band_of_earlier : h.c < scene.bands (nth places h.earlier).object
   pub part_of_scene : h.part < length scene.parts
-  pub meets : Meets (part_of scene h.part) h.later_band h.earlier_band
-  pub overlap : Overlap (scene.spots (nth places h.earlier).object h.earlier_band) (scene.spots (nth places h.later).object h.later_band) (part_of scene h.part).corners
+  pub meets : Meets (part_of scene h.part) h.b h.c
+  pub overlap : Overlap (scene.spots (nth places h.earlier).object h.c) (scene.spots (nth places h.later).object h.b) (part_of scene h.part).corners
       (place_point scale (nth places h.earlier)) (place_point scale (nth places h.later))
 
 abbrev pub ComesBefore : Hit → Hit → Type 0
-ComesBefore g h = Sooner (Sooner (Sooner (Sooner Less))) (g.earlier, (g.later, (g.later_band, (g.earlier_band, g.part)))) (h.earlier, (h.later, (h.later_band, (h.earlier_band, h.part))))
+ComesBefore g h = Sooner (Sooner (Sooner (Sooner Less))) (g.earlier, (g.later, (g.b, (g.c, g.part)))) (h.earlier, (h.later, (h.b, (h.c, h.part))))
 
 abbrev pub FirstStray : Scene → List Place → Option ℕ → Type 0
 FirstStray scene places r = IsFirst (IsStray scene places) Less r

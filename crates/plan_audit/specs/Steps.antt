@@ -67,7 +67,7 @@ abbrev pub HitsAt : Scene → ℤ → List Place → ℕ × (ℕ × (ℕ × (ℕ
 HitsAt scene scale places s = (s.0 < length places) × HitsAfter scene scale places s.0 s.1
 
 abbrev pub hit_by : ℕ × (ℕ × (ℕ × (ℕ × ℕ))) → Hit
-hit_by s = record { earlier = s.0; later = s.1.0; later_band = s.1.1.0; earlier_band = s.1.1.1.0; part = s.1.1.1.1 }
+hit_by s = record { earlier = s.0; later = s.1.0; b = s.1.1.0; c = s.1.1.1.0; part = s.1.1.1.1 }
 
 -- ---- the test of a box
 abbrev pub span_out : ℤ → ℤ → ℤ → ℤ → ℤ → ℤ → Bool

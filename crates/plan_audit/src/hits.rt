@@ -117,11 +117,11 @@ pub(crate) fn first_hit(job: &Job, places: &[Place], scale: i128) -> Option<Hit>
     ensures { FirstHit (scene_of_job job.now) scale places.now result }
 {
     match first_numbers(job, places, scale) {
-        Some((earlier, (later, (later_band, (earlier_band, part))))) => Some(Hit {
+        Some((earlier, (later, (b, (c, part))))) => Some(Hit {
             earlier,
             later,
-            earlier_band,
-            later_band,
+            c,
+            b,
             part,
         }),
         None => None,

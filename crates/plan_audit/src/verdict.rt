@@ -4,8 +4,8 @@
 pub struct Hit {
     pub earlier: u32,
     pub later: u32,
-    pub earlier_band: u32,
-    pub later_band: u32,
+    pub c: u32,
+    pub b: u32,
     pub part: u32,
 }
 

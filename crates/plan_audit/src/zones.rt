@@ -37,7 +37,7 @@ fn zones_hit(a: &Zone, part: &Part, b: &Zone, at: &RatPoint) -> bool
     requires at { FitsProducts at.now }
     ensures { IsTrue result ↔ ZonesHit a.now part.now b.now at.now }
 {
-    zones_meet(a, part, b) && overlap(a, b, part, at)
+    zones_meet(part, b, a) && overlap(a, b, part, at)
 }
 
 fn some_part_hits(parts: &[Part], a: &Zone, b: &Zone, at: &RatPoint) -> bool

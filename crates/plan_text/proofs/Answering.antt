@@ -5,8 +5,8 @@ use Rattle.std.proofs.lemmas.List.{take-append-drop, take_at, drop_at}
 use Rattle.seq_model.specs.declared.plan.Place.{Place}
 use Rattle.plan_text.specs.declared.file.State.{State}
 use Rattle.plan_text.specs.declared.file.PlanFile.{PlanFile}
-use Rattle.plan_text.specs.declared.reading.PlanError.{PlanError}
-use Rattle.plan_text.specs.declared.reading.PlanError.TheVariants as refused
+use Rattle.plan_text.specs.declared.reading.PlanRead.{PlanRead}
+use Rattle.plan_text.specs.declared.reading.PlanRead.TheVariants as refused
 use Rattle.plan_text.specs.PlanText.{has_places, is_block_due, head_text, body_text, plan_text, begins_place, IsBare, IsPlanFile, IsPlanOf}
 use Rattle.text_lines.specs.Reading.{has_line_end}
 use Rattle.plan_text.specs.Reading.{head_at, body_at, bare, file_at, ended, plan_answer}
@@ -100,7 +100,7 @@ pub file_again : (f : PlanFile) (rest : List ℕ) → IsPlanFile f → (has_plac
 file_again f rest is ended = again_by (has_places f.state) f rest refl is ended
 
 -- ---- what may stand behind the lines
-ended_by : (due empty lines : Bool) → cond {A = Result (Unit {0}) PlanError} (due || empty) (Ok tt) (cond lines (Err refused.Trailing) (Err refused.Missing)) ≡ Ok tt → due ≡ false → empty ≡ true
+ended_by : (due empty lines : Bool) → cond {A = Result (Unit {0}) PlanRead} (due || empty) (Ok tt) (cond lines (Err refused.Trailing) (Err refused.Missing)) ≡ Ok tt → due ≡ false → empty ≡ true
 ended_by true empty lines e undue = absurd (both_ways true refl undue)
 ended_by false true lines e undue = refl
 ended_by false false true e undue = absurd (err_is_not_ok _ tt _ refl e)
@@ -112,7 +112,7 @@ ended_takes f rest e is_false =
     let empty = ended_by (is_block_due f.state f.extent) (eqb (length rest) 0) (has_line_end rest) e is_false in
     grind (arith, nat_tests, empty)
 
-none_behind : (due : Bool) (rest : List ℕ) (other : Result (Unit {0}) PlanError) → (due ≡ false → length rest ≡ 0) → cond (due || eqb (length rest) 0) (Ok tt) other ≡ Ok tt
+none_behind : (due : Bool) (rest : List ℕ) (other : Result (Unit {0}) PlanRead) → (due ≡ false → length rest ≡ 0) → cond (due || eqb (length rest) 0) (Ok tt) other ≡ Ok tt
 none_behind true rest other h = refl
 none_behind false rest other h =
     let empty : eqb (length rest) 0 ≡ true = grind (arith, nat_tests, h refl) in
@@ -123,11 +123,11 @@ unfolding ended
 ended_again f rest h = none_behind (is_block_due f.state f.extent) rest _ h
 
 -- ---- the answer
-pub no_file : (bytes : List ℕ) (e : PlanError) → file_at bytes ≡ Err e → plan_answer bytes ≡ Err e
+pub no_file : (bytes : List ℕ) (e : PlanRead) → file_at bytes ≡ Err e → plan_answer bytes ≡ Err e
 unfolding plan_answer
 no_file bytes e h = rw h refl
 
-pub no_end : (bytes rest : List ℕ) (f : PlanFile) (e : PlanError) → file_at bytes ≡ Ok (f, rest) → ended f rest ≡ Err e → plan_answer bytes ≡ Err e
+pub no_end : (bytes rest : List ℕ) (f : PlanFile) (e : PlanRead) → file_at bytes ≡ Ok (f, rest) → ended f rest ≡ Err e → plan_answer bytes ≡ Err e
 unfolding plan_answer
 no_end bytes rest f e h k = rw (h, k) refl
 
@@ -168,5 +168,5 @@ answer_again bytes f k p =
     let place : length bytes - length rest ≡ k = omega (arith, p.within, left) in
     whole bytes rest f read end ∙ ap (λ n. Ok (f, n)) place
 
-pub all_of : (bytes : List ℕ) (r : Result (PlanFile × ℕ) PlanError) → (r ≢ Err refused.NoMemory → r ≡ plan_answer bytes) → (f : PlanFile) (k : ℕ) → IsPlanOf bytes f k → r ≢ Err refused.NoMemory → r ≡ Ok (f, k)
+pub all_of : (bytes : List ℕ) (r : Result (PlanFile × ℕ) PlanRead) → (r ≢ Err refused.NoMemory → r ≡ plan_answer bytes) → (f : PlanFile) (k : ℕ) → IsPlanOf bytes f k → r ≢ Err refused.NoMemory → r ≡ Ok (f, k)
 all_of bytes r is f k p some = is some ∙ answer_again bytes f k p

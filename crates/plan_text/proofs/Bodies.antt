@@ -7,8 +7,8 @@ use Rattle.seq_model.specs.declared.plan.Place.{Place}
 use Rattle.seq_model.specs.declared.what.What.TheVariants as what
 use Rattle.plan_text.specs.declared.file.State.{State}
 use Rattle.plan_text.specs.declared.file.PlanFile.{PlanFile}
-use Rattle.plan_text.specs.declared.reading.PlanError.{PlanError}
-use Rattle.plan_text.specs.declared.reading.PlanError.TheVariants as refused
+use Rattle.plan_text.specs.declared.reading.PlanRead.{PlanRead}
+use Rattle.plan_text.specs.declared.reading.PlanRead.TheVariants as refused
 use Rattle.plan_text.specs.PlanText.{places_text, body_text, IsPlace, IsPlaced, begins_place}
 use Rattle.text_lines.specs.Lines.{number_line, number_line_at}
 use Rattle.text_lines.specs.Laws.Lines.{number_line_takes, number_line_again}
@@ -17,10 +17,10 @@ use Rattle.text_lines.specs.Laws.Results.{step_ok, was_there, was_read, same_ok,
 use Rattle.plan_text.proofs.Divisors.{no_divisor_from, no_divisor_to}
 use Rattle.plan_text.proofs.Placing.{places_takes, places_again}
 
-abbrev pub extent_due : ℕ → List ℕ → Result (ℕ × List ℕ) PlanError
+abbrev pub extent_due : ℕ → List ℕ → Result (ℕ × List ℕ) PlanRead
 extent_due grid bytes = ok_or (number_line_at (codes "extent ") grid bytes) (refusal 4 what.Extent bytes)
 
-abbrev pub scale_due : List ℕ → Result (ℕ × List ℕ) PlanError
+abbrev pub scale_due : List ℕ → Result (ℕ × List ℕ) PlanRead
 scale_due bytes = ok_or (number_line_at (codes "scale ") 4_611_686_018_427_387_903 bytes) (refusal 5 what.Scale bytes)
 
 abbrev pub file_with : State → ℕ → ℕ → ℕ → List Place → PlanFile
@@ -30,15 +30,15 @@ pub made : (state : State) (grid extent scale : ℕ) (z : ℤ) (ps places : List
 made state grid extent scale z ps places scale_is places_are = rw (scale_is, places_are) refl
 
 -- ---- its steps
-pub no_extent : (state : State) (grid : ℕ) (bytes : List ℕ) (e : PlanError) → extent_due grid bytes ≡ Err e → body_at state grid bytes ≡ Err e
+pub no_extent : (state : State) (grid : ℕ) (bytes : List ℕ) (e : PlanRead) → extent_due grid bytes ≡ Err e → body_at state grid bytes ≡ Err e
 unfolding body_at
 no_extent state grid bytes e h = rw h refl
 
-pub no_scale : (state : State) (grid extent : ℕ) (bytes a : List ℕ) (e : PlanError) → extent_due grid bytes ≡ Ok (extent, a) → scale_due a ≡ Err e → body_at state grid bytes ≡ Err e
+pub no_scale : (state : State) (grid extent : ℕ) (bytes a : List ℕ) (e : PlanRead) → extent_due grid bytes ≡ Ok (extent, a) → scale_due a ≡ Err e → body_at state grid bytes ≡ Err e
 unfolding body_at
 no_scale state grid extent bytes a e h k = rw (h, k) refl
 
-pub no_places : (state : State) (grid extent scale : ℕ) (bytes a b : List ℕ) (e : PlanError) → extent_due grid bytes ≡ Ok (extent, a) → scale_due a ≡ Ok (scale, b) → places_from 16 [] b ≡ Err e → body_at state grid bytes ≡ Err e
+pub no_places : (state : State) (grid extent scale : ℕ) (bytes a b : List ℕ) (e : PlanRead) → extent_due grid bytes ≡ Ok (extent, a) → scale_due a ≡ Ok (scale, b) → places_from 16 [] b ≡ Err e → body_at state grid bytes ≡ Err e
 unfolding body_at
 no_places state grid extent scale bytes a b e h k l = rw (h, k, l) refl
 
@@ -63,7 +63,7 @@ pub record TakesBody (state : State) (grid : ℕ) (bytes rest : List ℕ) (f : P
 regroup : (a b c rest : List ℕ) → (a ++ (b ++ c)) ++ rest ≡ a ++ (b ++ (c ++ rest))
 regroup a b c rest = simp append_assoc
 
-tested : (b : Bool) (f g : PlanFile) (r rest : List ℕ) → cond {A = Result (PlanFile × List ℕ) PlanError} b (Ok (f, r)) (Err (refused.Line 5 what.Scale)) ≡ Ok (g, rest) → (b ≡ true) × (f ≡ g) × (r ≡ rest)
+tested : (b : Bool) (f g : PlanFile) (r rest : List ℕ) → cond {A = Result (PlanFile × List ℕ) PlanRead} b (Ok (f, r)) (Err (refused.Line 5 what.Scale)) ≡ Ok (g, rest) → (b ≡ true) × (f ≡ g) × (r ≡ rest)
 tested true f g r rest e =
     let both = same_ok _ (f, r) (g, rest) refl e in
     (refl, ap (λ (q : PlanFile × List ℕ). q.0) both, ap (λ (q : PlanFile × List ℕ). q.1) both)

@@ -8,7 +8,7 @@ use Rattle.seq_num.specs.Laws.Spelling.{guard_some}
 use Rattle.text_lines.specs.Laws.Reading.{step_some, literal_takes, literal_again, whole_takes, whole_again}
 use Rattle.seq_model.specs.declared.plan.Place.{Place}
 use Rattle.seq_model.specs.declared.what.What.TheVariants as what
-use Rattle.plan_text.specs.declared.reading.PlanError.{PlanError}
+use Rattle.plan_text.specs.declared.reading.PlanRead.{PlanRead}
 use Rattle.plan_text.specs.PlanText.{place_text, places_text, IsPlace, begins_place}
 use Rattle.plan_text.specs.Lines.{object_at, numerator_at, place_at}
 use Rattle.std.specs.Option.{ok_or}
@@ -140,17 +140,17 @@ step_end (suc room) found bytes begins = rw begins refl
 room_left : (n : ℕ) → n < 16 → 16 - n ≡ suc (15 - n)
 room_left n h = omega arith
 
-pub loop_more : (all : Result (List Place × List ℕ) PlanError) (found found' : List Place) (bytes rest : List ℕ) (p : Place) → length found < 16 → found' ≡ found ++ p ∷ [] → begins_place bytes ≡ true → place_at bytes ≡ Some (p, rest)
+pub loop_more : (all : Result (List Place × List ℕ) PlanRead) (found found' : List Place) (bytes rest : List ℕ) (p : Place) → length found < 16 → found' ≡ found ++ p ∷ [] → begins_place bytes ≡ true → place_at bytes ≡ Some (p, rest)
     → places_from (16 - length found) found bytes ≡ all → places_from (16 - length found') found' rest ≡ all
 loop_more all found found' bytes rest p few is begins read so_far =
     let left : 16 - length found' ≡ 15 - length found = omega (arith, ap length is, length-append found (p ∷ [])) in
     ap (λ n. places_from n found' rest) left ∙ ap (λ ps. places_from (15 - length found) ps rest) is ∙ sym (step_more (15 - length found) found bytes rest p begins read) ∙ ap (λ n. places_from n found bytes) (sym (room_left (length found) few)) ∙ so_far
 
-pub loop_none : (all : Result (List Place × List ℕ) PlanError) (found : List Place) (bytes : List ℕ) → length found < 16 → begins_place bytes ≡ true → place_at bytes ≡ None
+pub loop_none : (all : Result (List Place × List ℕ) PlanRead) (found : List Place) (bytes : List ℕ) → length found < 16 → begins_place bytes ≡ true → place_at bytes ≡ None
     → places_from (16 - length found) found bytes ≡ all → Err (refusal (length found + 6) what.Place bytes) ≡ all
 loop_none all found bytes few begins none so_far = sym (step_none (15 - length found) found bytes begins none) ∙ ap (λ n. places_from n found bytes) (sym (room_left (length found) few)) ∙ so_far
 
-pub loop_full : (all : Result (List Place × List ℕ) PlanError) (found : List Place) (bytes : List ℕ) → length found ≡ 16 → begins_place bytes ≡ true
+pub loop_full : (all : Result (List Place × List ℕ) PlanRead) (found : List Place) (bytes : List ℕ) → length found ≡ 16 → begins_place bytes ≡ true
     → places_from (16 - length found) found bytes ≡ all → Err (refusal (length found + 6) what.Place bytes) ≡ all
 loop_full all found bytes full begins so_far =
     let none : 16 - length found ≡ zero = omega arith in

@@ -19,16 +19,16 @@ use Rattle.seq_model.specs.declared.what.What.{What}
 use Rattle.seq_model.specs.declared.what.What.TheVariants as what
 use Rattle.plan_text.specs.declared.file.State.{State}
 use Rattle.plan_text.specs.declared.file.PlanFile.{PlanFile}
-use Rattle.plan_text.specs.declared.reading.PlanError.{PlanError}
-use Rattle.plan_text.specs.declared.reading.PlanError.TheVariants as refused
+use Rattle.plan_text.specs.declared.reading.PlanRead.{PlanRead}
+use Rattle.plan_text.specs.declared.reading.PlanRead.TheVariants as refused
 use Rattle.plan_text.specs.PlanText.{has_places, is_block_due, begins_place}
 use Rattle.plan_text.specs.Lines.{state_line_at, place_at}
 use Rattle.seq_limits.specs.declared.TheConstants.{MOST_GRID, MOST_OBJECTS}
 
-abbrev pub refusal : ℕ → What → List ℕ → PlanError
+abbrev pub refusal : ℕ → What → List ℕ → PlanRead
 refusal number what bytes = if has_line_end bytes then refused.Line number what else refused.Missing
 
-unfoldable pub head_at : List ℕ → Result (State × ℕ × List ℕ) PlanError
+unfoldable pub head_at : List ℕ → Result (State × ℕ × List ℕ) PlanRead
 head_at bytes = do
   a ← ok_or (literal_at (codes "seqplan 1\n") bytes) (refusal 1 what.Header bytes)
   state ← ok_or (state_line_at a) (refusal 2 what.State a)
@@ -43,7 +43,7 @@ divisor_of d [] = d
 divisor_of d (p ∷ ps) = divisor_of (divisor_with d p) ps
 
 -- the sixth line is the first place line
-unfoldable pub places_from : ℕ → List Place → List ℕ → Result (List Place × List ℕ) PlanError
+unfoldable pub places_from : ℕ → List Place → List ℕ → Result (List Place × List ℕ) PlanRead
 places_from zero found bytes =
     if begins_place bytes then Err (refusal (length found + 6) what.Place bytes) else Ok (found, bytes)
 places_from (suc room) found bytes =
@@ -51,7 +51,7 @@ places_from (suc room) found bytes =
     then (ok_or (place_at bytes) (refusal (length found + 6) what.Place bytes) >>= λ p. places_from room (found ++ p.0 ∷ []) p.1)
     else Ok (found, bytes)
 
-unfoldable pub body_at : State → ℕ → List ℕ → Result (PlanFile × List ℕ) PlanError
+unfoldable pub body_at : State → ℕ → List ℕ → Result (PlanFile × List ℕ) PlanRead
 body_at state grid bytes = do
   extent ← ok_or (number_line_at (codes "extent ") grid bytes) (refusal 4 what.Extent bytes)
   scale ← ok_or (number_line_at (codes "scale ") 4_611_686_018_427_387_903 extent.1) (refusal 5 what.Scale extent.1)
@@ -64,17 +64,17 @@ body_at state grid bytes = do
 abbrev pub bare : State → ℕ → PlanFile
 bare state grid = record { state = state; grid = grid; extent = 0; plan = record { scale = pos 1; places = [] } }
 
-unfoldable pub file_at : List ℕ → Result (PlanFile × List ℕ) PlanError
+unfoldable pub file_at : List ℕ → Result (PlanFile × List ℕ) PlanRead
 file_at bytes = do
   head ← head_at bytes
   if has_places head.0 then body_at head.0 head.1 head.2 else Ok (bare head.0 head.1, head.2)
 
-unfoldable pub ended : PlanFile → List ℕ → Result (Unit {0}) PlanError
+unfoldable pub ended : PlanFile → List ℕ → Result (Unit {0}) PlanRead
 ended file rest =
     if is_block_due file.state file.extent || (length rest == 0) then Ok tt
     else (if has_line_end rest then Err refused.Trailing else Err refused.Missing)
 
-unfoldable pub plan_answer : List ℕ → Result (PlanFile × ℕ) PlanError
+unfoldable pub plan_answer : List ℕ → Result (PlanFile × ℕ) PlanRead
 plan_answer bytes = do
   file ← file_at bytes
   end ← ended file.0 file.1

@@ -15,5 +15,5 @@ mod reading;
 mod writing;
 
 pub use file::{PlanFile, State};
-pub use reading::{PlanError, read_plan};
+pub use reading::{PlanRead, read_plan};
 pub use writing::write_plan;

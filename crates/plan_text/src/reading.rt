@@ -20,7 +20,7 @@ use thiserror::Error;
 
 /// Why bytes are no plan file.
 #[derive(Clone, Copy, Debug, PartialEq, Eq, Error)]
-pub enum PlanError {
+pub enum PlanRead {
     /// The line of this number, counted from 1, is ended and isn't of the due form.
     #[error("the plan file is refused")]
     Line(u64, What),
@@ -35,17 +35,17 @@ pub enum PlanError {
 }
 
 // Why the due line at the front isn't read.
-fn refusal(bytes: &[u8], number: u64, what: What) -> PlanError
+fn refusal(bytes: &[u8], number: u64, what: What) -> PlanRead
     ensures { result ≡ refusal number what bytes.now }
 {
     if has_line_end(bytes) {
-        PlanError::Line(number, what)
+        PlanRead::Line(number, what)
     } else {
-        PlanError::Missing
+        PlanRead::Missing
     }
 }
 
-fn header(bytes: &[u8]) -> Result<&[u8], PlanError>
+fn header(bytes: &[u8]) -> Result<&[u8], PlanRead>
     ensures { result_map_both (λ x. x.now) (λ e. e) result
         ≡ ok_or (literal_at (codes "seqplan 1\n") bytes.now) (refusal 1 What.Header bytes.now) }
 {
@@ -55,7 +55,7 @@ fn header(bytes: &[u8]) -> Result<&[u8], PlanError>
     }
 }
 
-fn state(bytes: &[u8]) -> Result<(State, &[u8]), PlanError>
+fn state(bytes: &[u8]) -> Result<(State, &[u8]), PlanRead>
     ensures { result_map_both (λ x. (x.0, x.1.now)) (λ e. e) result
         ≡ ok_or (state_line_at bytes.now) (refusal 2 What.State bytes.now) }
 {
@@ -72,7 +72,7 @@ fn due<'a>(
     most: u64,
     number: u64,
     what: What,
-) -> Result<(u64, &'a [u8]), PlanError>
+) -> Result<(u64, &'a [u8]), PlanRead>
     ensures value { result_map_both (λ x. (x.0, x.1.now)) (λ e. e) result
         ≡ ok_or (number_line_at keyword.now most bytes.now) (refusal number what bytes.now) }
     ensures within { IfOk result (λ x. x.0 ≤ most) }
@@ -85,7 +85,7 @@ fn due<'a>(
 
 // The state and the grid of the first three lines.
 #[tactic(auto, unfolding(crate::specs::Reading::head_at))]
-fn head(bytes: &[u8]) -> Result<(State, u32, &[u8]), PlanError>
+fn head(bytes: &[u8]) -> Result<(State, u32, &[u8]), PlanRead>
     ensures { result_map_both (λ x. (x.0, x.1, x.2.now)) (λ e. e) result ≡ head_at bytes.now }
 {
     let rest = header(bytes)?;
@@ -101,8 +101,8 @@ fn begins_place(bytes: &[u8]) -> bool
 }
 
 // The places of the place lines at the front, 16 at most.
-fn places(alloc: Global, bytes: &[u8]) -> Result<(Vec<Place>, &[u8]), PlanError>
-    ensures answer { result ≢ Err PlanError.NoMemory
+fn places(alloc: Global, bytes: &[u8]) -> Result<(Vec<Place>, &[u8]), PlanRead>
+    ensures answer { result ≢ Err PlanRead.NoMemory
         → result_map_both (λ x. (x.0.items, x.1.now)) (λ e. e) result
         ≡ places_from MOST_OBJECTS [] bytes.now }
     ensures small { IfOk result (λ x. All IsPlace x.0.items) }
@@ -118,7 +118,7 @@ fn places(alloc: Global, bytes: &[u8]) -> Result<(Vec<Place>, &[u8]), PlanError>
             return Err(refusal(rest, number, What::Place));
         };
         if found.push(place).is_err() {
-            return Err(PlanError::NoMemory);
+            return Err(PlanRead::NoMemory);
         }
         rest = after;
     }
@@ -148,20 +148,15 @@ fn divisor_of(scale: u64, places: &[Place]) -> u128
 }
 
 // The file of this state and grid, from the extent on.
-fn body(
-    alloc: Global,
-    state: State,
-    grid: u32,
-    bytes: &[u8],
-) -> Result<(PlanFile, &[u8]), PlanError>
-    ensures { result ≢ Err PlanError.NoMemory
+fn body(alloc: Global, state: State, grid: u32, bytes: &[u8]) -> Result<(PlanFile, &[u8]), PlanRead>
+    ensures { result ≢ Err PlanRead.NoMemory
         → result_map_both (λ x. (x.0, x.1.now)) (λ e. e) result ≡ body_at state grid bytes.now }
 {
     let (extent, rest) = due(bytes, b"extent ", u64::from(grid), 4, What::Extent)?;
     let (scale, rest) = due(rest, b"scale ", (1 << 62) - 1, 5, What::Scale)?;
     let (places, rest) = places(alloc, rest)?;
     if divisor_of(scale, &places) != 1 {
-        return Err(PlanError::Line(5, What::Scale));
+        return Err(PlanRead::Line(5, What::Scale));
     }
     let plan = Plan {
         scale: i128::from(scale),
@@ -192,8 +187,8 @@ fn bare(alloc: Global, state: State, grid: u32) -> PlanFile
 
 // The file of the plan's own lines, and the bytes after them.
 #[tactic(auto, unfolding(crate::specs::Reading::file_at))]
-fn file(alloc: Global, bytes: &[u8]) -> Result<(PlanFile, &[u8]), PlanError>
-    ensures { result ≢ Err PlanError.NoMemory
+fn file(alloc: Global, bytes: &[u8]) -> Result<(PlanFile, &[u8]), PlanRead>
+    ensures { result ≢ Err PlanRead.NoMemory
         → result_map_both (λ x. (x.0, x.1.now)) (λ e. e) result ≡ file_at bytes.now }
 {
     let (state, grid, rest) = head(bytes)?;
@@ -205,26 +200,26 @@ fn file(alloc: Global, bytes: &[u8]) -> Result<(PlanFile, &[u8]), PlanError>
 
 // Whether the rest may stand behind the file's own lines.
 #[tactic(auto, unfolding(crate::specs::Reading::ended))]
-fn end(file: &PlanFile, rest: &[u8]) -> Result<(), PlanError>
+fn end(file: &PlanFile, rest: &[u8]) -> Result<(), PlanRead>
     ensures { result ≡ ended file.now rest.now }
 {
     if file.is_block_due() || rest.is_empty() {
         return Ok(());
     }
     if has_line_end(rest) {
-        Err(PlanError::Trailing)
+        Err(PlanRead::Trailing)
     } else {
-        Err(PlanError::Missing)
+        Err(PlanRead::Missing)
     }
 }
 
 /// The plan file at the front of the bytes, and the place where its own lines end: where its tree block begins, if one
 /// is due. The block is neither read nor scanned.
-pub fn read_plan(alloc: Global, bytes: &[u8]) -> Result<(PlanFile, usize), PlanError>
-    ensures answer { result ≢ Err PlanError.NoMemory → result ≡ plan_answer bytes.now }
+pub fn read_plan(alloc: Global, bytes: &[u8]) -> Result<(PlanFile, usize), PlanRead>
+    ensures answer { result ≢ Err PlanRead.NoMemory → result ≡ plan_answer bytes.now }
     ensures read { IfOk result (λ r. IsPlanOf bytes.now r.0 r.1) }
     ensures all { (file : PlanFile) (place : ℕ) → IsPlanOf bytes.now file place
-        → result ≢ Err PlanError.NoMemory → result ≡ Ok (file, place) }
+        → result ≢ Err PlanRead.NoMemory → result ≡ Ok (file, place) }
 {
     let (file, rest) = file(alloc, bytes)?;
     end(&file, rest)?;

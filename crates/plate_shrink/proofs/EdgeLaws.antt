@@ -3,7 +3,7 @@
 --   LiesAt job e x y a    moved by whole grains, these edges lie in the region of the extent
 --   lies_of_valid         where a plan that is moved is valid, its edges lie so
 --   valid_of_lies         and where they do, a valid plan that is moved is valid
---   lies_by_fits          edges that are no farther apart than those of a region are moved into it
+--   lies_by_narrow        edges that are no farther apart than those of a region are moved into it
 use Rattle.std.proofs.Common.{◌≡◌, ℕ, ◌<◌, ◌≤◌, ℤ, pos, ◌+ℤ◌, ◌-ℤ◌, ◌*ℤ◌, ◌≤ℤ◌, ◌<ℤ◌, List, [], ◌∷◌, length, map, All, refl, sym, ap, ◌∙◌, subst, arith}
 use Rattle.std.proofs.lemmas.Int.{ints, clamps}
 use Rattle.std.proofs.lemmas.List.Elements.{All-cons, All-contains, All-head, All-nil, All-tail}
@@ -19,7 +19,7 @@ use Rattle.seq_model.specs.Scenes.{In, Valid}
 use Rattle.seq_model.specs.declared.job.Job.{Job}
 use Rattle.seq_model.specs.declared.plan.Place.{Place}
 use Rattle.seq_model.specs.declared.plan.Plan.{Plan}
-use Rattle.plate_shrink.specs.Edges.{FitsExtent, IsSpanOf, edges_of, edges_with, joined}
+use Rattle.plate_shrink.specs.Edges.{AreNarrow, IsSpanOf, edges_of, edges_with, joined}
 use Rattle.plate_shrink.specs.declared.fitting.Edges.{Edges}
 use Rattle.plate_shrink.proofs.Shifts.{moved_by, plan_moved, valid_moved}
 
@@ -102,11 +102,11 @@ module _ (job : Job) (e : ℕ) (x y : ℤ) where
       let one = lies_first all (edges_of job s p) more.0 in
       (one.0, All-cons (λ (q : Place). LiesAt job e x y (edges_of job s q)) p places one.1 more.1)
 
-  pub fits_by_lies : (a : Edges) → LiesAt job e x y a → FitsExtent job e a
-  fits_by_lies a l = record { width = omega (arith, ints, l.west, l.east); depth = omega (arith, ints, l.south, l.north) }
+  pub narrow_by_lies : (a : Edges) → LiesAt job e x y a → AreNarrow job e a
+  narrow_by_lies a l = record { width = omega (arith, ints, l.west, l.east); depth = omega (arith, ints, l.south, l.north) }
 
-pub lies_by_fits : (job : Job) (e : ℕ) (a : Edges) → FitsExtent job e a → LiesAt job e ((region_at job e).low.x -ℤ a.west) ((region_at job e).low.y -ℤ a.south) a
-lies_by_fits job e a n = record { west = omega (arith, ints); east = omega (arith, ints, n.width); south = omega (arith, ints); north = omega (arith, ints, n.depth) }
+pub lies_by_narrow : (job : Job) (e : ℕ) (a : Edges) → AreNarrow job e a → LiesAt job e ((region_at job e).low.x -ℤ a.west) ((region_at job e).low.y -ℤ a.south) a
+lies_by_narrow job e a n = record { west = omega (arith, ints); east = omega (arith, ints, n.width); south = omega (arith, ints); north = omega (arith, ints, n.depth) }
 
 -- ---- a plan
 inside_moved : (job : Job) (e : ℕ) (x y : ℤ) (plan : Plan) → pos 1 ≤ℤ plan.scale → All (λ (p : Place). p.object < length job.objects) plan.places

@@ -27,9 +27,9 @@ use Rattle.seq_model.specs.declared.plan.Plan.{Plan}
 use Rattle.seq_model.specs.declared.plate.Region.{Region}
 use Rattle.node_looks.specs.Looks.{IsFound}
 use Rattle.plan_audit.specs.Places.{IsRoomy}
-use Rattle.plate_shrink.proofs.EdgeLaws.{lies_by_fits, lies_of_valid, lies_there, fits_by_lies, valid_of_lies}
+use Rattle.plate_shrink.proofs.EdgeLaws.{lies_by_narrow, lies_of_valid, lies_there, narrow_by_lies, valid_of_lies}
 use Rattle.plate_shrink.proofs.Moves.{found_again}
-use Rattle.plate_shrink.specs.Edges.{FitsExtent, IsSpanOf, edges_of, edges_with, joined, shift_of}
+use Rattle.plate_shrink.specs.Edges.{AreNarrow, IsSpanOf, edges_of, edges_with, joined, shift_of}
 use Rattle.plate_shrink.specs.Fitting.{FitsNoLower, IsSmallShift, plan_by}
 use Rattle.plate_shrink.specs.declared.fitting.Edges.{Edges}
 use Rattle.plate_shrink.specs.declared.fitting.Shift.{Shift}
@@ -104,11 +104,11 @@ spread job plan a one known span =
     subst IsSpread (sym span.are) (spread_with job plan.scale (edges_of job plan.scale span.first) plan.places (spread_of job plan.scale span.first one first))
 
 -- a valid plan's edges lie on the plate, and so they do where they are moved to
-pub shift_near : (job : Job) (e f : ℕ) (plan : Plan) (a : Edges) → e ≤ job.printer.grid → f ≤ job.printer.grid → Valid (scene_of_job job) e plan → IsSpanOf job plan a → FitsExtent job f a
+pub shift_near : (job : Job) (e f : ℕ) (plan : Plan) (a : Edges) → e ≤ job.printer.grid → f ≤ job.printer.grid → Valid (scene_of_job job) e plan → IsSpanOf job plan a → AreNarrow job f a
     → IsSmallShift (shift_of a (region_at job f).low)
 shift_near job e f plan a e_in f_in v span narrow =
     let here = lies_there job e plan a span v in
-    let there = lies_by_fits job f a narrow in
+    let there = lies_by_narrow job f a narrow in
     let on = on_plate job e e_in in
     let at = on_plate job f f_in in
     let s = spread job plan a v.scale v.known span in
@@ -147,21 +147,21 @@ valid_room job e plan v small = All-from_get_or IsRoomy plan.places no_place
     place_room job e plan.scale (get_or plan.places k no_place) v.to_grid v.scale small known (box_by_in job e plan.scale (get_or plan.places k no_place) known inside)))
 
 -- ---- the plan that is answered
-pub moved_found : (job : Job) (e f : ℕ) (plan moved : Plan) (a : Edges) (shift : Shift) → e ≤ job.printer.grid → 1 ≤ f → f ≤ e → IsFound job e plan → IsSpanOf job plan a → FitsExtent job f a
+pub moved_found : (job : Job) (e f : ℕ) (plan moved : Plan) (a : Edges) (shift : Shift) → e ≤ job.printer.grid → 1 ≤ f → f ≤ e → IsFound job e plan → IsSpanOf job plan a → AreNarrow job f a
     → shift ≡ shift_of a (region_at job f).low → moved ≡ plan_by shift plan → IsFound job f moved
 moved_found job e f plan moved a shift grid one below found span narrow is made =
     let s = shift_of a (region_at job f).low in
     let f_in : f ≤ job.printer.grid = omega (arith, below, grid) in
-    let valid : Valid (scene_of_job job) f (plan_by s plan) = valid_of_lies job e f s.x s.y plan a span found.valid one f_in (lies_by_fits job f a narrow) in
+    let valid : Valid (scene_of_job job) f (plan_by s plan) = valid_of_lies job e f s.x s.y plan a span found.valid one f_in (lies_by_narrow job f a narrow) in
     let made_by : moved ≡ plan_by s plan = made ∙ ap (λ (t : Shift). plan_by t plan) is in
     let there : Valid (scene_of_job job) f moved = subst (Valid (scene_of_job job) f) (sym made_by) valid in
     let roomy : All IsRoomy (plan_by s plan).places = valid_room job f (plan_by s plan) valid found.scale_high in
     found_again job e f s plan moved found made_by there (subst (λ (p : Plan). All IsRoomy p.places) (sym made_by) roomy)
 
-pub no_lower : (job : Job) (f : ℕ) (plan : Plan) (a : Edges) → IsSpanOf job plan a → pos 1 ≤ℤ plan.scale → ((g : ℕ) → 1 ≤ g → g < f → FitsExtent job g a → ⊥) → FitsNoLower job plan f
+pub no_lower : (job : Job) (f : ℕ) (plan : Plan) (a : Edges) → IsSpanOf job plan a → pos 1 ≤ℤ plan.scale → ((g : ℕ) → 1 ≤ g → g < f → AreNarrow job g a → ⊥) → FitsNoLower job plan f
 no_lower job f plan a span one none = record {
-  none = λ g below shift v. none g v.from_one below (fits_by_lies job g shift.x shift.y a (lies_of_valid job g shift.x shift.y plan a span one v));
+  none = λ g below shift v. none g v.from_one below (narrow_by_lies job g shift.x shift.y a (lies_of_valid job g shift.x shift.y plan a span one v));
 }
 
-pub fits_there : (job : Job) (e : ℕ) (plan : Plan) (a : Edges) → IsSpanOf job plan a → Valid (scene_of_job job) e plan → FitsExtent job e a
-fits_there job e plan a span v = fits_by_lies job e (pos 0) (pos 0) a (lies_there job e plan a span v)
+pub narrow_there : (job : Job) (e : ℕ) (plan : Plan) (a : Edges) → IsSpanOf job plan a → Valid (scene_of_job job) e plan → AreNarrow job e a
+narrow_there job e plan a span v = narrow_by_lies job e (pos 0) (pos 0) a (lies_there job e plan a span v)

@@ -6,8 +6,8 @@
 --   edges_with job s a ps   those of a and of more places
 --   IsSpanOf job plan a     a are the edges of the plan; the place with which they begin counts twice, which changes nothing
 --   IsNearEdges a           their numbers are below 2^92 in size
---   FitsRegion region a     the edges are no farther apart than those of the region
---   FitsExtent job e a      so it is in the region of the extent
+--   IsNarrowIn region a     the edges are no farther apart than those of the region
+--   AreNarrow job e a       so it is in the region of the extent
 --   shift_of a corner       the move that brings the low edges to the corner
 use Rattle.std.specs.Prelude.{◌≡◌, ℕ, ◌<◌, ◌^◌, ℤ, ◌+ℤ◌, ◌-ℤ◌, ◌≤ℤ◌, unsigned_abs, List, Contains, fold}
 use Rattle.std.specs.Int.{int_max, int_min}
@@ -52,12 +52,12 @@ pub record IsNearEdges (a : Edges) : Type 0 where
   pub south : unsigned_abs a.south < 2 ^ 92
   pub north : unsigned_abs a.north < 2 ^ 92
 
-pub record FitsRegion (region : Region) (a : Edges) : Type 0 where
+pub record IsNarrowIn (region : Region) (a : Edges) : Type 0 where
   pub width : (a.east -ℤ a.west) ≤ℤ region.w
   pub depth : (a.north -ℤ a.south) ≤ℤ region.h
 
-abbrev pub FitsExtent : Job → ℕ → Edges → Type 0
-FitsExtent job e a = FitsRegion (region_at job e) a
+abbrev pub AreNarrow : Job → ℕ → Edges → Type 0
+AreNarrow job e a = IsNarrowIn (region_at job e) a
 
 abbrev pub shift_of : Edges → Spot → Shift
 shift_of a corner = record { x = corner.x -ℤ a.west; y = corner.y -ℤ a.south }

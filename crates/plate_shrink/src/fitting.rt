@@ -5,7 +5,7 @@ ghost use Rattle.std.specs.Int.{int_max, int_min};
 ghost use Rattle.integer_laws.specs.Quotients.{ceil, floor};
 ghost use Rattle.node_looks.specs.Looks.{IsFound};
 ghost use Rattle.plan_text.specs.PlanText.{IsPlace};
-ghost use Rattle.plate_shrink.specs.Edges.{FitsExtent, FitsRegion, IsNearEdges, IsSpanOf, edges_of, joined, shift_of};
+ghost use Rattle.plate_shrink.specs.Edges.{AreNarrow, IsNarrowIn, IsNearEdges, IsSpanOf, edges_of, joined, shift_of};
 ghost use Rattle.plate_shrink.specs.Fitting.{FitsNoLower, IsFitted, IsSmallShift, place_by, plan_by};
 
 use integer_laws::{difference, product, sum};
@@ -156,9 +156,9 @@ fn is_within(low: &i128, high: &i128, size: &i64) -> bool
 }
 
 // Whether the edges are no wider and no deeper than the region.
-fn fits_region(all: &Edges, within: &Region) -> bool
+fn is_narrow(all: &Edges, within: &Region) -> bool
     requires { IsNearEdges all.now }
-    ensures { IsTrue result ↔ FitsRegion within.now all.now }
+    ensures { IsTrue result ↔ IsNarrowIn within.now all.now }
 {
     if !is_within(&all.west, &all.east, &within.w) {
         return false;
@@ -171,14 +171,14 @@ fn least_fit(job: &Job, extent: u32, all: &Edges) -> u32
     requires from_one { 1 ≤ extent }
     requires to_grid { extent ≤ job.now.printer.grid }
     requires near { IsNearEdges all.now }
-    requires fits { FitsExtent job.now extent all.now }
+    requires narrow { AreNarrow job.now extent all.now }
     ensures low { 1 ≤ result }
     ensures high { result ≤ extent }
-    ensures fits { FitsExtent job.now result all.now }
-    ensures least { (f : ℕ) → 1 ≤ f → f < result → FitsExtent job.now f all.now → ⊥ }
+    ensures narrow { AreNarrow job.now result all.now }
+    ensures least { (f : ℕ) → 1 ≤ f → f < result → AreNarrow job.now f all.now → ⊥ }
 {
     for smaller in 1..extent {
-        if fits_region(all, &region(&job.printer, smaller)) {
+        if is_narrow(all, &region(&job.printer, smaller)) {
             return smaller;
         }
     }

@@ -13,7 +13,7 @@ use seq_limits::{FARTHEST, LEAST_STEP};
 use seq_model::{Part, Zone};
 use seq_num::{ceil_div, floor_div};
 
-// A height in bands of `step`, rounded down: the least band that what begins there reaches.
+// The bands of `step` up to a height, the one that it lies in left out.
 fn first_band(from: i64, step: i64) -> u32
     requires low { pos 0 ≤ℤ from }
     requires high { from ≤ℤ pos FARTHEST }
@@ -25,7 +25,7 @@ fn first_band(from: i64, step: i64) -> u32
     floor_div(i128::from(from), i128::from(step)) as u32
 }
 
-// A height in bands of `step`, rounded up: the greatest band that what ends there reaches.
+// The bands of `step` up to a height, the one that it lies in counted.
 fn last_band(to: i64, step: i64) -> u32
     requires low { pos 0 ≤ℤ to }
     requires high { to ≤ℤ pos FARTHEST }
@@ -73,7 +73,7 @@ pub fn meets(part: &Part, b: u32, c: u32) -> bool
 }
 
 /// Whether some bands of the two zones meet by the part.
-pub fn zones_meet(earlier: &Zone, part: &Part, later: &Zone) -> bool
+pub fn zones_meet(part: &Part, later: &Zone, earlier: &Zone) -> bool
     ensures { IsTrue result ↔ ZonesMeet earlier.now part.now later.now }
 {
     if u64::from(later.first) + u64::from(part.lo) > u64::from(earlier.last) {

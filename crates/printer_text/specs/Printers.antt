@@ -27,8 +27,8 @@ use Rattle.seq_model.specs.declared.printer.Spot.{Spot}
 use Rattle.toml.specs.Data.{Items, no_items, item, Members, as_table}
 use Rattle.toml.specs.Parse.{parse_document}
 use Rattle.printer_text.specs.declared.Key.TheVariants as key
-use Rattle.printer_text.specs.declared.PrinterError.{PrinterError}
-use Rattle.printer_text.specs.declared.PrinterError.TheVariants as errors
+use Rattle.printer_text.specs.declared.Prn.{Prn}
+use Rattle.printer_text.specs.declared.Prn.TheVariants as prn
 use Rattle.printer_text.specs.declared.top.Sizes.{Sizes}
 use Rattle.printer_text.specs.declared.values.Bad.{Bad}
 use Rattle.printer_text.specs.Keys.{top_keys, part_keys, outline_keys}
@@ -52,18 +52,18 @@ part_with begun corners = record {
 }
 
 -- its first keys, then those of its outline, then its other keys
-unfoldable pub part_in : ℕ → Sizes → Members → Result Part PrinterError
+unfoldable pub part_in : ℕ → Sizes → Members → Result Part Prn
 part_in n sizes t =
     after (numbered n (reading part_keys t (about sizes))) (λ begun.
     after (numbered n (outline_in sizes begun.bar t)) (λ corners.
     without_others n (names (part_keys ++ outline_keys begun.bar)) t (part_with begun corners)))
 
 -- an element that is no table isn't met: `part` is an array of tables
-abbrev pub part_from : ℕ → Sizes → Option Members → Result Part PrinterError
+abbrev pub part_from : ℕ → Sizes → Option Members → Result Part Prn
 part_from n sizes (Some t) = part_in n sizes t
-part_from n sizes None = Err (errors.Kind key.Part 0)
+part_from n sizes None = Err (prn.Kind key.Part 0)
 
-abbrev pub parts_behind : ℕ → Sizes → List Part → Items → Result (List Part) PrinterError
+abbrev pub parts_behind : ℕ → Sizes → List Part → Items → Result (List Part) Prn
 parts_behind n sizes done no_items = Ok done
 parts_behind n sizes done (item d ds) = after (part_from n sizes (as_table d)) (λ part. parts_behind (n + 1) sizes (done ++ part ∷ []) ds)
 
@@ -79,11 +79,11 @@ description_with sizes parts = record {
 }
 
 -- the top table and its other keys
-unfoldable pub top_in : Members → Result Said PrinterError
+unfoldable pub top_in : Members → Result Said Prn
 top_in t = after (numbered 0 (reading top_keys t nothing)) (λ said. without_others 0 (names top_keys) t said)
 
 -- the top table, and then each listed part, behind the tip
-unfoldable pub description_in : Members → Result Description PrinterError
+unfoldable pub description_in : Members → Result Description Prn
 description_in t =
     after (top_in t) (λ top.
     after (parts_behind 1 top.sizes (tip ∷ []) top.listed) (λ parts.
@@ -127,14 +127,14 @@ pub record PrinterOf (bytes : List ℕ) (printer : Printer) : Type 0 where
   pub kept : AreKept parts printer.parts
 
 -- a tree is refused at its first wrong key; other bytes are no TOML
-pub record IsRefusedTree (bytes : List ℕ) (e : PrinterError) : Type 0 where
+pub record IsRefusedTree (bytes : List ℕ) (e : Prn) : Type 0 where
   pub tree : Members
   pub is_tree : IsTreeOf bytes tree
   pub refused : description_in tree ≡ Err e
 
-pub record IsNoTree (bytes : List ℕ) (e : PrinterError) : Type 0 where
-  pub toml : e ≡ errors.Toml
+pub record IsNoTree (bytes : List ℕ) (e : Prn) : Type 0 where
+  pub toml : e ≡ prn.Toml
   pub none : (t : Members) → IsTreeOf bytes t → ⊥
 
-abbrev pub IsRefusedPrinter : List ℕ → PrinterError → Type 0
+abbrev pub IsRefusedPrinter : List ℕ → Prn → Type 0
 IsRefusedPrinter bytes e = IsRefusedTree bytes e ⊎ IsNoTree bytes e

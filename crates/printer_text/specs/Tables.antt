@@ -10,7 +10,7 @@
 --   names rows                   the keys of these rows
 --   first_other keys t           the least key of the table, in byte order, that is none of these
 --   next_other keys t            the first that the table lists: the same, since a table lists its keys in byte order
---   error_of n bad               the refusal of a key in the top table (n = 0) or in listed part n - 1
+--   prn_of n bad                 the refusal of a key in the top table (n = 0) or in listed part n - 1
 --   without_others n keys t x    x, where the table has no other key
 use Rattle.std.specs.Prelude.{ℕ, ℤ, pos, ◌*ℤ◌, Bool, false, ◌||◌, List, [], ◌∷◌, Option, Some, None, Result, Ok, Err, if◌then◌else◌, unsigned_abs}
 use Rattle.std.specs.Cmp.Lexicographic.{slice_cmp}
@@ -21,8 +21,8 @@ use Rattle.seq_model.specs.declared.printer.Spot.{Spot}
 use Rattle.toml.specs.Data.{Data, Items, no_items, Members, no_members, member}
 use Rattle.printer_text.specs.declared.Key.{Key}
 use Rattle.printer_text.specs.declared.Key.TheVariants as key
-use Rattle.printer_text.specs.declared.PrinterError.{PrinterError}
-use Rattle.printer_text.specs.declared.PrinterError.TheVariants as errors
+use Rattle.printer_text.specs.declared.Prn.{Prn}
+use Rattle.printer_text.specs.declared.Prn.TheVariants as prn
 use Rattle.printer_text.specs.declared.part.Heights.{Heights}
 use Rattle.printer_text.specs.declared.top.Sizes.{Sizes}
 use Rattle.printer_text.specs.declared.values.Bad.{Bad}
@@ -144,25 +144,25 @@ next_other keys (member text d ms) = if is_named keys text then next_other keys 
 
 -- ---- refusals
 
-abbrev pub error_by : ℕ → Key → Cause → PrinterError
-error_by n k cause.Missing = errors.Missing k n
-error_by n k cause.Kind = errors.Kind k n
-error_by n k cause.FloatLength = errors.FloatLength k n
-error_by n k cause.Number = errors.Number k n
-error_by n k cause.Range = errors.Range k n
-error_by n k cause.OffGrain = errors.OffGrain k n
-error_by n k cause.TooMany = errors.TooManyParts
+abbrev pub prn_by : ℕ → Key → Cause → Prn
+prn_by n k cause.Missing = prn.Missing k n
+prn_by n k cause.Kind = prn.Kind k n
+prn_by n k cause.FloatLength = prn.FloatLength k n
+prn_by n k cause.Number = prn.Number k n
+prn_by n k cause.Range = prn.Range k n
+prn_by n k cause.OffGrain = prn.OffGrain k n
+prn_by n k cause.TooMany = prn.TooManyParts
 
-abbrev pub error_of : ℕ → Bad → PrinterError
-error_of n bad = error_by n bad.key bad.cause
+abbrev pub prn_of : ℕ → Bad → Prn
+prn_of n bad = prn_by n bad.key bad.cause
 
-abbrev pub numbered : {A : Type 0} → ℕ → Result A Bad → Result A PrinterError
+abbrev pub numbered : {A : Type 0} → ℕ → Result A Bad → Result A Prn
 numbered n (Ok x) = Ok x
-numbered n (Err bad) = Err (error_of n bad)
+numbered n (Err bad) = Err (prn_of n bad)
 
-abbrev pub unless_other : {A : Type 0} → ℕ → Option (List ℕ) → A → Result A PrinterError
+abbrev pub unless_other : {A : Type 0} → ℕ → Option (List ℕ) → A → Result A Prn
 unless_other n None x = Ok x
-unless_other n (Some text) x = Err (errors.Unknown text n)
+unless_other n (Some text) x = Err (prn.Unknown text n)
 
-abbrev pub without_others : {A : Type 0} → ℕ → List Key → Members → A → Result A PrinterError
+abbrev pub without_others : {A : Type 0} → ℕ → List Key → Members → A → Result A Prn
 without_others n keys t x = unless_other n (first_other keys t) x

@@ -44,11 +44,10 @@ pub enum Key {
 
 /// Why bytes describe no printer. The number beside a key is 0 for the top table and 1 + p for listed part p.
 #[derive(Debug, Drop, Error)]
-pub enum PrinterError {
+pub enum Prn {
     /// The bytes are no TOML, or not UTF-8.
     #[error("the description is refused")]
     Toml,
-    /// The key that the table must have isn't there.
     #[error("the description is refused")]
     Missing(Key, u32),
     /// The value is of another kind than the key asks for, or an array has another number of elements.
@@ -57,10 +56,9 @@ pub enum PrinterError {
     /// A length is a TOML float.
     #[error("the description is refused")]
     FloatLength(Key, u32),
-    /// A length is a string that spells none, or one above 10 m.
+    /// A length is a string that spells none.
     #[error("the description is refused")]
     Number(Key, u32),
-    /// The value is out of the key's range.
     #[error("the description is refused")]
     Range(Key, u32),
     /// A length that has to lie on the grain is no whole multiple of it.
@@ -69,7 +67,6 @@ pub enum PrinterError {
     /// The first other key of the table, in byte order.
     #[error("the description is refused")]
     Unknown(Text, u32),
-    /// More than 12 parts are listed.
     #[error("the description is refused")]
     TooManyParts,
     #[error("memory")]

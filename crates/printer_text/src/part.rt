@@ -6,7 +6,7 @@ ghost use Rattle.toml.specs.View.{table_view};
 ghost use Rattle.printer_text.specs.Keys.{part_keys, outline_keys};
 ghost use Rattle.printer_text.specs.Outlines.{AreSizes, IsOutline, IsListedPart};
 ghost use Rattle.printer_text.specs.Printers.{outline_in, part_in};
-ghost use Rattle.printer_text.specs.Tables.{reading, about, said_first, names, error_of, first_other};
+ghost use Rattle.printer_text.specs.Tables.{reading, about, said_first, names, prn_of, first_other};
 ghost use Rattle.printer_text.specs.declared.top.Sizes.{Sizes};
 ghost use Rattle.printer_text.specs.Values.{StopsKey};
 
@@ -15,7 +15,7 @@ use crate::keys::{
 };
 use crate::top::Sizes;
 use crate::values::{Bad, Cause};
-use crate::{Key, PrinterError};
+use crate::{Key, Prn};
 use owned_lists::{Items, Text};
 use printer_envelopes::{bands_of, bar_corners};
 use seq_limits::{FARTHEST, GREATEST_REACH, LONGEST_NAME};
@@ -23,7 +23,7 @@ use seq_model::{Part, Spot};
 use std::alloc::Global;
 use toml::Table;
 
-// How far a corner or a bar may be from the tip, in grains, as the readers of lengths take it.
+// The same, as the readers of lengths take it.
 const REACH: i64 = GREATEST_REACH as i64;
 
 /// Where a part begins and ends above the tip, in µm, and whether it is a bar, along x or y.
@@ -35,27 +35,27 @@ pub struct Heights {
 }
 
 /// The refusal of a key in the table of this number.
-pub fn refusal(number: u32, bad: Bad) -> PrinterError
-    ensures { result ≡ error_of number bad }
+pub fn refusal(number: u32, bad: Bad) -> Prn
+    ensures { result ≡ prn_of number bad }
 {
     match bad.cause {
-        Cause::Missing => PrinterError::Missing(bad.key, number),
-        Cause::Kind => PrinterError::Kind(bad.key, number),
-        Cause::FloatLength => PrinterError::FloatLength(bad.key, number),
-        Cause::Number => PrinterError::Number(bad.key, number),
-        Cause::Range => PrinterError::Range(bad.key, number),
-        Cause::OffGrain => PrinterError::OffGrain(bad.key, number),
-        Cause::TooMany => PrinterError::TooManyParts,
+        Cause::Missing => Prn::Missing(bad.key, number),
+        Cause::Kind => Prn::Kind(bad.key, number),
+        Cause::FloatLength => Prn::FloatLength(bad.key, number),
+        Cause::Number => Prn::Number(bad.key, number),
+        Cause::Range => Prn::Range(bad.key, number),
+        Cause::OffGrain => Prn::OffGrain(bad.key, number),
+        Cause::TooMany => Prn::TooManyParts,
     }
 }
 
 /// The refusal of another key in the table of this number.
-pub fn unknown(alloc: Global, text: &str, number: u32) -> PrinterError
-    ensures { (result ≡ PrinterError.NoMemory) ⊎ (result ≡ PrinterError.Unknown text.now number) }
+pub fn unknown(alloc: Global, text: &str, number: u32) -> Prn
+    ensures { (result ≡ Prn.NoMemory) ⊎ (result ≡ Prn.Unknown text.now number) }
 {
     match Text::from_str(alloc, text) {
-        Ok(text) => PrinterError::Unknown(text, number),
-        Err(_) => PrinterError::NoMemory,
+        Ok(text) => Prn::Unknown(text, number),
+        Err(_) => Prn::NoMemory,
     }
 }
 
@@ -152,17 +152,12 @@ fn other_key(table: &Table, bar: Option<bool>) -> Option<&str>
 
 /// The part that the table of this number lists, with its corners as they are listed.
 #[tactic(auto, unfolding(crate::specs::Printers::part_in))]
-pub fn read_part(
-    alloc: Global,
-    number: u32,
-    table: &Table,
-    sizes: &Sizes,
-) -> Result<Part, PrinterError>
+pub fn read_part(alloc: Global, number: u32, table: &Table, sizes: &Sizes) -> Result<Part, Prn>
     requires { AreSizes sizes.now }
     ensures listed { IfOk result IsListedPart }
     ensures ok { IfOk result (λ part. part_in number sizes.now (table_view table.now) ≡ Ok part) }
     ensures err { IfErr result
-        (λ e. (e ≡ PrinterError.NoMemory) ⊎ (part_in number sizes.now (table_view table.now) ≡ Err e)) }
+        (λ e. (e ≡ Prn.NoMemory) ⊎ (part_in number sizes.now (table_view table.now) ≡ Err e)) }
 {
     let (name, heights) = match read_first(table) {
         Ok(first) => first,
@@ -170,7 +165,7 @@ pub fn read_part(
     };
     let corners = match outline(alloc, table, sizes, heights.bar) {
         Ok(corners) => corners,
-        Err(Unread::NoMemory) => return Err(PrinterError::NoMemory),
+        Err(Unread::NoMemory) => return Err(Prn::NoMemory),
         Err(Unread::Bad(bad)) => return Err(refusal(number, bad)),
     };
     if let Some(text) = other_key(table, heights.bar) {
@@ -184,6 +179,6 @@ pub fn read_part(
             lo,
             hi,
         }),
-        Err(_) => Err(PrinterError::NoMemory),
+        Err(_) => Err(Prn::NoMemory),
     }
 }

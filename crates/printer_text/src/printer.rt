@@ -9,12 +9,12 @@ ghost use Rattle.printer_text.specs.Keys.{top_keys};
 ghost use Rattle.printer_text.specs.Outlines.{AreSizes, IsListedPart};
 ghost use Rattle.printer_text.specs.Printers.{top_in, parts_behind, IsKept, ArePartsOf, description_in, description_with, DescribedBy, AreKept, PrinterOf, IsRefusedPrinter};
 ghost use Rattle.printer_text.specs.Tables.{said_top};
-ghost use Rattle.printer_text.specs.declared.PrinterError.{PrinterError};
+ghost use Rattle.printer_text.specs.declared.Prn.{Prn};
 
 use crate::keys::first_other;
 use crate::part::{read_part, refusal, unknown};
 use crate::top::{Sizes, read_top};
-use crate::{Key, PrinterError};
+use crate::{Key, Prn};
 use convex_outline::hull;
 use owned_lists::{Items, Text};
 use seq_limits::MOST_LISTED_PARTS;
@@ -62,26 +62,26 @@ fn kept_part(alloc: Global, part: Part) -> Result<Part, NoMemory>
 }
 
 // The tip and the listed parts behind it, with the corners of their hulls.
-fn read_parts(alloc: Global, sizes: &Sizes, listed: &[Value]) -> Result<Vec<Part>, PrinterError>
+fn read_parts(alloc: Global, sizes: &Sizes, listed: &[Value]) -> Result<Vec<Part>, Prn>
     requires sizes { AreSizes sizes.now }
     requires few { length listed.now ≤ MOST_LISTED_PARTS }
     ensures ok { IfOk result (λ parts. ArePartsOf sizes.now (items_view listed.now) parts.items) }
-    ensures err { IfErr result (λ e. (e ≡ PrinterError.NoMemory)
+    ensures err { IfErr result (λ e. (e ≡ Prn.NoMemory)
         ⊎ (parts_behind 1 sizes.now (tip ∷ []) (items_view listed.now) ≡ Err e)) }
 {
     let Ok(mut parts) = tip_alone(alloc) else {
-        return Err(PrinterError::NoMemory);
+        return Err(Prn::NoMemory);
     };
     for (index, value) in listed.iter().enumerate() {
         let Some(table) = value.as_table() else {
-            return Err(PrinterError::Kind(Key::Part, 0));
+            return Err(Prn::Kind(Key::Part, 0));
         };
         let part = read_part(alloc, index as u32 + 1, table, sizes)?;
         let Ok(kept) = kept_part(alloc, part) else {
-            return Err(PrinterError::NoMemory);
+            return Err(Prn::NoMemory);
         };
         if parts.push(kept).is_err() {
-            return Err(PrinterError::NoMemory);
+            return Err(Prn::NoMemory);
         }
     }
     Ok(parts)
@@ -105,15 +105,12 @@ fn printer_with(sizes: Sizes, parts: Items<Part>) -> Printer
 
 // The sizes and the listed parts of a top table that has no other key.
 #[tactic(auto, unfolding(crate::specs::Printers::top_in))]
-fn top_alone<'a>(
-    alloc: Global,
-    table: &'a Table,
-) -> Result<(Sizes, Option<&'a [Value]>), PrinterError>
+fn top_alone<'a>(alloc: Global, table: &'a Table) -> Result<(Sizes, Option<&'a [Value]>), Prn>
     ensures ok { IfOk result (λ top. top_in (table_view table.now)
         ≡ Ok (said_top top.0 (option_map (λ values. items_view values.now) top.1))) }
     ensures ranged { IfOk result (λ top. AreSizes top.0) }
     ensures few { IfOk result (λ top. IfSome top.1 (λ values. length values.now ≤ MOST_LISTED_PARTS)) }
-    ensures err { IfErr result (λ e. (e ≡ PrinterError.NoMemory) ⊎ (top_in (table_view table.now) ≡ Err e)) }
+    ensures err { IfErr result (λ e. (e ≡ Prn.NoMemory) ⊎ (top_in (table_view table.now) ≡ Err e)) }
 {
     let top = match read_top(table) {
         Ok(top) => top,
@@ -136,12 +133,12 @@ fn top_alone<'a>(
 
 // The printer of a table.
 #[tactic(auto, unfolding(crate::specs::Printers::description_in))]
-fn described(alloc: Global, table: &Table) -> Result<Printer, PrinterError>
+fn described(alloc: Global, table: &Table) -> Result<Printer, Prn>
     ensures ok { IfOk result (λ printer. (parts : List Part)
         × (description_in (table_view table.now) ≡ Ok (description_of printer parts))
         × AreKept parts printer.parts) }
     ensures err { IfErr result
-        (λ e. (e ≡ PrinterError.NoMemory) ⊎ (description_in (table_view table.now) ≡ Err e)) }
+        (λ e. (e ≡ Prn.NoMemory) ⊎ (description_in (table_view table.now) ≡ Err e)) }
 {
     let (sizes, listed) = top_alone(alloc, table)?;
     let parts = read_parts(alloc, &sizes, listed.unwrap_or(&[]))?;
@@ -149,17 +146,17 @@ fn described(alloc: Global, table: &Table) -> Result<Printer, PrinterError>
 }
 
 /// The printer that the bytes describe. Its parts are the tip and the listed ones, each with the corners of its hull.
-pub fn read_printer(alloc: Global, bytes: &[u8]) -> Result<Printer, PrinterError>
+pub fn read_printer(alloc: Global, bytes: &[u8]) -> Result<Printer, Prn>
     ensures ok { IfOk result (λ printer. PrinterOf bytes.now printer) }
-    ensures err { IfErr result (λ e. (e ≡ PrinterError.NoMemory) ⊎ IsRefusedPrinter bytes.now e) }
+    ensures err { IfErr result (λ e. (e ≡ Prn.NoMemory) ⊎ IsRefusedPrinter bytes.now e) }
 {
     match toml::table_from_slice(alloc, bytes) {
         Ok(table) => described(alloc, &table),
         Err(error) => {
             if error.is_memory() {
-                Err(PrinterError::NoMemory)
+                Err(Prn::NoMemory)
             } else {
-                Err(PrinterError::Toml)
+                Err(Prn::Toml)
             }
         }
     }
@@ -169,8 +166,8 @@ pub fn read_printer(alloc: Global, bytes: &[u8]) -> Result<Printer, PrinterError
 pub fn one_description()
     ensures description { (bytes : List ℕ) (d e : Description) → DescribedBy bytes d
         → DescribedBy bytes e → d ≡ e }
-    ensures refusal { (bytes : List ℕ) (why other : PrinterError) → IsRefusedPrinter bytes why
+    ensures refusal { (bytes : List ℕ) (why other : Prn) → IsRefusedPrinter bytes why
         → IsRefusedPrinter bytes other → why ≡ other }
-    ensures not_both { (bytes : List ℕ) (d : Description) (why : PrinterError) → DescribedBy bytes d
+    ensures not_both { (bytes : List ℕ) (d : Description) (why : Prn) → DescribedBy bytes d
         → IsRefusedPrinter bytes why → ⊥ }
 {}

@@ -73,5 +73,5 @@ unfit_mesh files name task step facets dropped (Causes.Plan e) is u = absurd u
 unfit_mesh files name task step facets dropped (Causes.Block e) is u = absurd u
 unfit_mesh files name task step facets dropped (Causes.Stl e) is u = absurd u
 unfit_mesh files name task step facets dropped (Causes.NotClosed edges volume) is u = record { facets = facets; dropped = dropped; is = is; unfit = u }
-unfit_mesh files name task step facets dropped Causes.NoFacetLeft is u = record { facets = facets; dropped = dropped; is = is; unfit = u }
+unfit_mesh files name task step facets dropped Causes.Flat is u = record { facets = facets; dropped = dropped; is = is; unfit = u }
 unfit_mesh files name task step facets dropped (Causes.TooTall bands) is u = record { facets = facets; dropped = dropped; is = is; unfit = u }

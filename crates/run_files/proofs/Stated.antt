@@ -2,13 +2,13 @@
 use Rattle.std.proofs.Common.{◌≡◌, ◌≢◌, ℕ, Bool, true, false, List, drop, Option, Some, None, Result, Ok, Err, refl, sym, ap, ◌∙◌, subst}
 use Rattle.cert_text.specs.Heads.{IsRefusedTree}
 use Rattle.cert_text.specs.Laws.Heads.{tree_all, tree_refuses}
-use Rattle.cert_text.specs.declared.block.BlockError.{BlockError}
+use Rattle.cert_text.specs.declared.block.CertRead.{CertRead}
 use Rattle.cert_text.specs.declared.block.Head.{Head}
 use Rattle.cert_text.specs.declared.block.Kind.TheVariants.{Certificate}
 use Rattle.plan_text.specs.PlanText.{IsPlanOf}
 use Rattle.plan_text.specs.declared.file.PlanFile.{PlanFile}
-use Rattle.plan_text.specs.declared.reading.PlanError.{PlanError}
-use Rattle.plan_text.specs.declared.reading.PlanError.TheVariants.{NoMemory}
+use Rattle.plan_text.specs.declared.reading.PlanRead.{PlanRead}
+use Rattle.plan_text.specs.declared.reading.PlanRead.TheVariants.{NoMemory}
 use Rattle.seq_io.specs.Files.{GivesFile}
 use Rattle.seq_io.specs.declared.mem_file.MemFile.{MemFile}
 use Rattle.seq_model.specs.declared.tree.Tree.{Tree}
@@ -19,7 +19,7 @@ use Rattle.run_files.specs.declared.plans.GivenPlan.{GivenPlan}
 use Rattle.run_files.specs.declared.words.Task.{Task}
 
 -- ---- a block is read as one thing, and none that is refused
-abbrev ok_block : Head × Tree → Result (Head × Tree) BlockError
+abbrev ok_block : Head × Tree → Result (Head × Tree) CertRead
 ok_block b = Ok b
 
 block_of-one : (due : Bool) (rest : List ℕ) (b d : Option (Head × Tree)) → IsBlockOf due rest b → IsBlockOf due rest d → b ≡ d
@@ -31,23 +31,23 @@ block_of-one true rest (Some b) None p q = absurd q
 block_of-one true rest (Some b) (Some d) p q =
     (let same : ok_block b ≡ ok_block d = tree_all Certificate rest (ok_block b) p tt d.0 d.1 q (λ e. absurd (cc e)) in cc same)
 
-block_of-refused : (due : Bool) (rest : List ℕ) (b : Option (Head × Tree)) (e : BlockError) → due ≡ true → IsBlockOf due rest b → IsRefusedTree rest Certificate e → ⊥
+block_of-refused : (due : Bool) (rest : List ℕ) (b : Option (Head × Tree)) (e : CertRead) → due ≡ true → IsBlockOf due rest b → IsRefusedTree rest Certificate e → ⊥
 block_of-refused false rest b e due is r = absurd (cc due)
 block_of-refused true rest None e due is r = is
 block_of-refused true rest (Some b) e due is r =
     (let same : ok_block b ≡ Err e = tree_refuses Certificate rest (ok_block b) is tt e r (λ x. absurd (cc x)) in absurd (cc same))
 
 -- ---- so are the lines of a plan
-abbrev IsAll : List ℕ → Result (PlanFile × ℕ) PlanError → Type 0
+abbrev IsAll : List ℕ → Result (PlanFile × ℕ) PlanRead → Type 0
 IsAll bytes r = (f : PlanFile) (k : ℕ) → IsPlanOf bytes f k → r ≢ Err NoMemory → r ≡ Ok (f, k)
 
 pub record IsOneFile (bytes : List ℕ) (file : PlanFile) (place : ℕ) : Type 0 where
   pub same : (f : PlanFile) (k : ℕ) → IsPlanOf bytes f k → (f ≡ file) × (k ≡ place)
 
-abbrev ok_file : PlanFile × ℕ → Result (PlanFile × ℕ) PlanError
+abbrev ok_file : PlanFile × ℕ → Result (PlanFile × ℕ) PlanRead
 ok_file x = Ok x
 
-pub one_file : (bytes : List ℕ) (r : Result (PlanFile × ℕ) PlanError) (file : PlanFile) (place : ℕ) → r ≡ Ok (file, place) → IsAll bytes r → IsOneFile bytes file place
+pub one_file : (bytes : List ℕ) (r : Result (PlanFile × ℕ) PlanRead) (file : PlanFile) (place : ℕ) → r ≡ Ok (file, place) → IsAll bytes r → IsOneFile bytes file place
 one_file bytes r file place e all = record { same = λ f k is. inside (f, k) (file, place) (sym (all f k is (λ no. absurd (cc (e, no)))) ∙ e) }
   where
     inside : (x y : PlanFile × ℕ) → ok_file x ≡ ok_file y → (x.0 ≡ y.0) × (x.1 ≡ y.1)
@@ -67,7 +67,7 @@ only_stated task bytes file place block one is = λ other s.
     made : (f g : PlanFile) (b d : Option (Head × Tree)) → f ≡ g → b ≡ d → plan_with f b ≡ plan_with g d
     made f g b d p q = cc
 
-pub no_block : (task : Task) (bytes : List ℕ) (e : BlockError) (r : HasNoBlock task bytes e) → IsOneFile bytes r.file r.place → (plan : GivenPlan) → IsStatedBy task bytes plan → ⊥
+pub no_block : (task : Task) (bytes : List ℕ) (e : CertRead) (r : HasNoBlock task bytes e) → IsOneFile bytes r.file r.place → (plan : GivenPlan) → IsStatedBy task bytes plan → ⊥
 no_block task bytes e r one plan s =
     let same = one.same plan.file s.place s.is in
     let there : IsBlockOf (reads_block task r.file) (drop r.place bytes) plan.block =

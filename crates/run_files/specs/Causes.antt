@@ -3,7 +3,7 @@
 --
 --   IsSomePrinter files name          the file of that name states some description
 --   IsNoPrinter files name e          its bytes are within the limit, and no description for this cause
---   IsRefusedDescription files name c   the printer's file is refused for this cause
+--   IsRefusedFile files name c        the printer's file is refused for this cause
 --   HasNoBlock task bytes e           the bytes begin with the lines of a plan, and the block behind them, which the task reads, is
 --                                     refused for this cause
 --   IsPlanCause task bytes c          reading the bytes refuses a plan, or its block, for this cause
@@ -25,7 +25,7 @@
 use Rattle.std.specs.Prelude.{◌≡◌, ℕ, ℤ, Bool, true, ◌≤◌, ◌<◌, List, [], length, take, drop, Option, IsSome, Err}
 use Rattle.std.specs.List.{AllZip}
 use Rattle.cert_text.specs.Heads.{IsRefusedTree}
-use Rattle.cert_text.specs.declared.block.BlockError.{BlockError}
+use Rattle.cert_text.specs.declared.block.CertRead.{CertRead}
 use Rattle.cert_text.specs.declared.block.Kind.TheVariants.{Certificate}
 use Rattle.mesh_checks.specs.Edges.{open_edges}
 use Rattle.mesh_checks.specs.Verdicts.{IsClosedOutward}
@@ -35,13 +35,13 @@ use Rattle.plan_text.specs.PlanText.{IsPlanOf}
 use Rattle.plan_text.specs.Reading.{plan_answer}
 use Rattle.plan_text.specs.declared.file.PlanFile.{PlanFile}
 use Rattle.printer_text.specs.Printers.{IsRefusedPrinter}
-use Rattle.printer_text.specs.declared.PrinterError.{PrinterError}
+use Rattle.printer_text.specs.declared.Prn.{Prn}
 use Rattle.seq_io.specs.Files.{GivesFile, LongerThan}
 use Rattle.seq_io.specs.declared.mem_file.MemFile.{MemFile}
 use Rattle.seq_model.specs.Scenes.{Description}
 use Rattle.seq_model.specs.declared.mesh.Facet.{Facet}
 use Rattle.stl_text.specs.Meshes.{IsRefused}
-use Rattle.stl_text.specs.declared.StlError.{StlError}
+use Rattle.stl_text.specs.declared.Stl.{Stl}
 use Rattle.run_files.specs.Files.{name_in, printer_limit, plan_limit, mesh_limit, HasNamedPlan, IsPrinterFile, IsMeshFile, PassesStrict, NamedMesh, IsUsableMesh}
 use Rattle.run_files.specs.Plans.{IsStatedBy, reads_block}
 use Rattle.run_files.specs.Words.{is_strict}
@@ -60,24 +60,24 @@ pub record IsSomePrinter (files : Option (List MemFile)) (name : List ℕ) : Typ
   pub is : IsPrinterFile files name description
 
 -- bytes within the limit that the tables of keys refuse
-pub record IsNoPrinter (files : Option (List MemFile)) (name : List ℕ) (e : PrinterError) : Type 0 where
+pub record IsNoPrinter (files : Option (List MemFile)) (name : List ℕ) (e : Prn) : Type 0 where
   pub bytes : List ℕ
   pub gives : GivesFile files name bytes
   pub short : length bytes ≤ printer_limit
   pub refused : IsRefusedPrinter bytes e
 
-abbrev pub IsRefusedDescription : Option (List MemFile) → List ℕ → Cause → Type 0
-IsRefusedDescription files name Causes.TooLong = LongerThan (printer_limit) files name
-IsRefusedDescription files name (Causes.Printer e) = IsNoPrinter files name e
-IsRefusedDescription files name (Causes.Plan e) = ⊥
-IsRefusedDescription files name (Causes.Block e) = ⊥
-IsRefusedDescription files name (Causes.Stl e) = ⊥
-IsRefusedDescription files name (Causes.NotClosed edges volume) = ⊥
-IsRefusedDescription files name Causes.NoFacetLeft = ⊥
-IsRefusedDescription files name (Causes.TooTall bands) = ⊥
+abbrev pub IsRefusedFile : Option (List MemFile) → List ℕ → Cause → Type 0
+IsRefusedFile files name Causes.TooLong = LongerThan (printer_limit) files name
+IsRefusedFile files name (Causes.Printer e) = IsNoPrinter files name e
+IsRefusedFile files name (Causes.Plan e) = ⊥
+IsRefusedFile files name (Causes.Block e) = ⊥
+IsRefusedFile files name (Causes.Stl e) = ⊥
+IsRefusedFile files name (Causes.NotClosed edges volume) = ⊥
+IsRefusedFile files name Causes.Flat = ⊥
+IsRefusedFile files name (Causes.TooTall bands) = ⊥
 
 -- the lines of a plan can be read, and the tree block behind them is refused
-pub record HasNoBlock (task : Task) (bytes : List ℕ) (e : BlockError) : Type 0 where
+pub record HasNoBlock (task : Task) (bytes : List ℕ) (e : CertRead) : Type 0 where
   pub file : PlanFile
   pub place : ℕ
   pub is : IsPlanOf bytes file place
@@ -92,7 +92,7 @@ IsPlanCause task bytes (Causes.Plan e) = plan_answer bytes ≡ Err e
 IsPlanCause task bytes (Causes.Block e) = HasNoBlock task bytes e
 IsPlanCause task bytes (Causes.Stl e) = ⊥
 IsPlanCause task bytes (Causes.NotClosed edges volume) = ⊥
-IsPlanCause task bytes Causes.NoFacetLeft = ⊥
+IsPlanCause task bytes Causes.Flat = ⊥
 IsPlanCause task bytes (Causes.TooTall bands) = ⊥
 
 pub record StatesNone (task : Task) (bytes : List ℕ) (c : Cause) : Type 0 where
@@ -112,11 +112,11 @@ IsRefusedPlan files task name (Causes.Plan e) = IsNoPlanFile files task name (Ca
 IsRefusedPlan files task name (Causes.Block e) = IsNoPlanFile files task name (Causes.Block e)
 IsRefusedPlan files task name (Causes.Stl e) = ⊥
 IsRefusedPlan files task name (Causes.NotClosed edges volume) = ⊥
-IsRefusedPlan files task name Causes.NoFacetLeft = ⊥
+IsRefusedPlan files task name Causes.Flat = ⊥
 IsRefusedPlan files task name (Causes.TooTall bands) = ⊥
 
 -- bytes within the limit that the grammar of meshes refuses
-pub record IsNoStl (files : Option (List MemFile)) (name : List ℕ) (e : StlError) : Type 0 where
+pub record IsNoStl (files : Option (List MemFile)) (name : List ℕ) (e : Stl) : Type 0 where
   pub bytes : List ℕ
   pub gives : GivesFile files name bytes
   pub short : length bytes ≤ mesh_limit
@@ -137,7 +137,7 @@ IsUnfitFor task facets step (Causes.Plan e) = ⊥
 IsUnfitFor task facets step (Causes.Block e) = ⊥
 IsUnfitFor task facets step (Causes.Stl e) = ⊥
 IsUnfitFor task facets step (Causes.NotClosed edges volume) = IsNotClosed (is_strict task) facets edges volume
-IsUnfitFor task facets step Causes.NoFacetLeft = PassesStrict (is_strict task) facets × (facets ≡ [])
+IsUnfitFor task facets step Causes.Flat = PassesStrict (is_strict task) facets × (facets ≡ [])
 IsUnfitFor task facets step (Causes.TooTall bands) = PassesStrict (is_strict task) facets × IsTooTall facets step bands
 
 -- a mesh that can't be used
@@ -154,7 +154,7 @@ IsRefusedMesh files name task step (Causes.Plan e) = ⊥
 IsRefusedMesh files name task step (Causes.Block e) = ⊥
 IsRefusedMesh files name task step (Causes.Stl e) = IsNoStl files name e
 IsRefusedMesh files name task step (Causes.NotClosed edges volume) = IsUnfitFile files name task step (Causes.NotClosed edges volume)
-IsRefusedMesh files name task step Causes.NoFacetLeft = IsUnfitFile files name task step Causes.NoFacetLeft
+IsRefusedMesh files name task step Causes.Flat = IsUnfitFile files name task step Causes.Flat
 IsRefusedMesh files name task step (Causes.TooTall bands) = IsUnfitFile files name task step (Causes.TooTall bands)
 
 pub record IsPlanDue (files : Option (List MemFile)) (a : Asked) : Type 0 where
@@ -181,7 +181,7 @@ pub record IsRefusedBy (files : Option (List MemFile)) (a : Asked) (k : ℕ) (c 
   pub refused : IsRefusedMesh files (name_in a (Mesh k)) a.task before.description.step c
 
 abbrev pub Refuses : Option (List MemFile) → Asked → NamedFile → Cause → Type 0
-Refuses files a Printer c = IsRefusedDescription files a.printer c
+Refuses files a Printer c = IsRefusedFile files a.printer c
 Refuses files a Plan c = IsPlanRefused files a c
 Refuses files a (Mesh k) c = IsRefusedBy files a k c
 
@@ -202,7 +202,7 @@ IsUnlooked strict facets (Because c) = ⊥
 IsUnlooked strict facets NoMemory = Unit {0}
 
 abbrev pub IsUnsliced : List Facet → ℤ → Unfit → Type 0
-IsUnsliced facets step (Because Causes.NoFacetLeft) = facets ≡ []
+IsUnsliced facets step (Because Causes.Flat) = facets ≡ []
 IsUnsliced facets step (Because (Causes.TooTall bands)) = IsTooTall facets step bands
 IsUnsliced facets step (Because c) = ⊥
 IsUnsliced facets step NoMemory = Unit {0}

@@ -13,7 +13,7 @@
 use Rattle.std.specs.Prelude.{◌≡◌, ◌≤◌, ◌<◌, ◌^◌, ℕ, List, [], ◌∷◌, length, Bool, true, false, Option, Some, None, IsSome, Result, Ok, Err}
 use Rattle.seq_words.specs.Asked.{asked}
 use Rattle.seq_words.specs.declared.command.Command.{Command}
-use Rattle.seq_words.specs.declared.command.WordsError.{WordsError}
+use Rattle.seq_words.specs.declared.command.Words.{Words}
 use Rattle.run_files.specs.declared.words.Asked.{Asked}
 use Rattle.run_files.specs.declared.words.Request.{Request}
 use Rattle.run_files.specs.declared.words.Request.TheVariants.{OfFiles, Trial}
@@ -28,26 +28,26 @@ is_strict Tasks.Audit = false
 is_strict Tasks.Check = false
 is_strict Tasks.Slices = false
 
-abbrev pub request_by : Task → List ℕ → Option (List ℕ) → List (List ℕ) → Result Request WordsError
-request_by task printer plan [] = Err WordsError.Usage
+abbrev pub request_by : Task → List ℕ → Option (List ℕ) → List (List ℕ) → Result Request Words
+request_by task printer plan [] = Err Words.Usage
 request_by task printer plan (mesh ∷ meshes) = Ok (OfFiles (record { task = task; printer = printer; plan = plan; meshes = mesh ∷ meshes }))
 
 abbrev pub arranging : Bool → Bool → ℕ → Task
 arranging false strict budget = Tasks.Arrange strict budget
 arranging true strict budget = Tasks.Least strict budget
 
-abbrev pub request_of : Command → Result Request WordsError
+abbrev pub request_of : Command → Result Request Words
 request_of (Command.Arrange least strict budget printer meshes) = request_by (arranging least strict budget) printer None meshes
 request_of (Command.Check printer plan meshes) = request_by Tasks.Check printer (Some plan) meshes
 request_of (Command.Audit printer plan meshes) = request_by Tasks.Audit printer (Some plan) meshes
 request_of (Command.Slices printer mesh) = request_by Tasks.Slices printer None (mesh ∷ [])
 request_of (Command.Trial objects seed) = Ok (Trial objects seed)
 
-abbrev pub requested_by : Result Command WordsError → Result Request WordsError
+abbrev pub requested_by : Result Command Words → Result Request Words
 requested_by (Ok command) = request_of command
 requested_by (Err refusal) = Err refusal
 
-abbrev pub requested : List (List ℕ) → Result Request WordsError
+abbrev pub requested : List (List ℕ) → Result Request Words
 requested words = requested_by (asked words)
 
 pub record Asks (words : List (List ℕ)) (P : Asked → Type 0) : Type 0 where

@@ -7,11 +7,11 @@ ghost use Rattle.run_files.specs.declared.stop.NamedFile.{NamedFile};
 use crate::reading::read_file;
 use crate::stop::stop_of;
 use crate::{Asked, Cause, NamedFile, Stop};
-use printer_text::{PrinterError, read_printer};
+use printer_text::{Prn, read_printer};
 use seq_io::Shelf;
 use seq_model::{Mesh, Printer};
 use std::alloc::Global;
-use stl_text::{StlError, read_mesh};
+use stl_text::{Stl, read_mesh};
 
 /// The printer that the words name.
 pub fn load_printer<S: Shelf>(alloc: Global, asked: &Asked, shelf: &mut S) -> Result<Printer, Stop>
@@ -27,7 +27,7 @@ pub fn load_printer<S: Shelf>(alloc: Global, asked: &Asked, shelf: &mut S) -> Re
     };
     match read_printer(alloc, &bytes) {
         Ok(printer) => Ok(printer),
-        Err(PrinterError::NoMemory) => Err(Stop::Memory),
+        Err(Prn::NoMemory) => Err(Stop::Memory),
         Err(e) => Err(Stop::Input(NamedFile::Printer, Cause::Printer(e))),
     }
 }
@@ -53,7 +53,7 @@ pub fn load_mesh<S: Shelf>(
     };
     match read_mesh(alloc, &bytes) {
         Ok(mesh) => Ok(mesh),
-        Err(StlError::NoMemory) => Err(Stop::Memory),
+        Err(Stl::NoMemory) => Err(Stop::Memory),
         Err(e) => Err(Stop::Input(NamedFile::Mesh(number), Cause::Stl(e))),
     }
 }

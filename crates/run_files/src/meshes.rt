@@ -19,7 +19,7 @@ use crate::words::name_in;
 use crate::{Asked, Cause, NamedFile, Stop, Task, Unfit};
 use mesh_checks::{Notes, look};
 use mesh_notes::note_of;
-use mesh_slices::{SliceError, object};
+use mesh_slices::{Slice, object};
 use owned_lists::Items;
 use seq_io::Shelf;
 use seq_model::{Mesh, Object, Printer};
@@ -81,9 +81,9 @@ fn sliced(alloc: Global, name: &str, mesh: &Mesh, printer: &Printer) -> Result<O
 {
     match object(alloc, name, mesh, printer) {
         Ok(object) => Ok(object),
-        Err(SliceError::NoFacet) => Err(Unfit::Because(Cause::NoFacetLeft)),
-        Err(SliceError::TooTall(bands)) => Err(Unfit::Because(Cause::TooTall(bands))),
-        Err(SliceError::NoMemory) => Err(Unfit::NoMemory),
+        Err(Slice::Flat) => Err(Unfit::Because(Cause::Flat)),
+        Err(Slice::TooTall(bands)) => Err(Unfit::Because(Cause::TooTall(bands))),
+        Err(Slice::NoMemory) => Err(Unfit::NoMemory),
     }
 }
 

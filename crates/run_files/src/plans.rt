@@ -1,6 +1,6 @@
 ghost use Rattle.std.specs.Prelude.{◌≡◌, ◌≢◌, true, List, Some, IsSome, IfOk, IfErr, OnOk, OnErr};
 ghost use Rattle.cert_text.specs.Heads.{IsRefusedTree};
-ghost use Rattle.cert_text.specs.declared.block.BlockError.{BlockError};
+ghost use Rattle.cert_text.specs.declared.block.CertRead.{CertRead};
 ghost use Rattle.cert_text.specs.declared.block.Kind.{Kind};
 ghost use Rattle.seq_io.specs.Views.{ShelfView};
 ghost use Rattle.seq_io.specs.declared.mem_file.MemFile.{MemFile};
@@ -15,8 +15,8 @@ ghost use Rattle.run_files.specs.declared.stop.NamedFile.{NamedFile};
 use crate::reading::read_file;
 use crate::stop::{stop_at, stop_of};
 use crate::{Asked, Cause, NamedFile, Stop, Task, Unfit};
-use cert_text::{BlockError, Head, Kind, read_tree};
-use plan_text::{PlanError, PlanFile, State, read_plan};
+use cert_text::{CertRead, Head, Kind, read_tree};
+use plan_text::{PlanFile, PlanRead, State, read_plan};
 use seq_io::Shelf;
 use seq_model::Tree;
 use std::alloc::Global;
@@ -56,10 +56,10 @@ fn block_of(
     task: Task,
     file: &PlanFile,
     rest: &[u8],
-) -> Result<Option<(Head, Tree)>, BlockError>
+) -> Result<Option<(Head, Tree)>, CertRead>
     ensures is { IfOk result (IsBlockOf (reads_block task file.now) rest.now) }
     ensures due { OnErr result (reads_block task file.now ≡ true) }
-    ensures refused { IfErr result (λ e. e ≢ BlockError.NoMemory
+    ensures refused { IfErr result (λ e. e ≢ CertRead.NoMemory
         → IsRefusedTree rest.now Kind.Certificate e) }
 {
     if !reads_block(task, file) {
@@ -77,12 +77,12 @@ fn plan_of(alloc: Global, task: Task, bytes: &[u8]) -> Result<GivenPlan, Unfit>
 {
     let (file, place) = match read_plan(alloc, bytes) {
         Ok(read) => read,
-        Err(PlanError::NoMemory) => return Err(Unfit::NoMemory),
+        Err(PlanRead::NoMemory) => return Err(Unfit::NoMemory),
         Err(e) => return Err(Unfit::Because(Cause::Plan(e))),
     };
     match block_of(alloc, task, &file, &bytes[place..]) {
         Ok(block) => Ok(GivenPlan { file, block }),
-        Err(BlockError::NoMemory) => Err(Unfit::NoMemory),
+        Err(CertRead::NoMemory) => Err(Unfit::NoMemory),
         Err(e) => Err(Unfit::Because(Cause::Block(e))),
     }
 }

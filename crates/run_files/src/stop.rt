@@ -1,13 +1,13 @@
 ghost use Rattle.std.specs.Prelude.{◌≡◌};
 ghost use Rattle.run_files.specs.Stops.{stop_of, unfit_stop};
 
-use cert_text::BlockError;
-use plan_text::PlanError;
-use printer_text::PrinterError;
+use cert_text::CertRead;
+use plan_text::PlanRead;
+use printer_text::Prn;
 use seq_io::ReadAll;
 use seq_num::NoMemory;
 use std::alloc::AllocError;
-use stl_text::StlError;
+use stl_text::Stl;
 
 /// A file that the words name. Meshes are numbered from 0 in word order.
 #[derive(Clone, Copy, PartialEq, Eq, Debug)]
@@ -22,15 +22,15 @@ pub enum NamedFile {
 pub enum Cause {
     /// It is over its limit.
     TooLong,
-    Printer(PrinterError),
-    Plan(PlanError),
+    Printer(Prn),
+    Plan(PlanRead),
     /// Of the tree block behind a plan's own lines.
-    Block(BlockError),
-    Stl(StlError),
+    Block(CertRead),
+    Stl(Stl),
     /// A strict run, and edges are open or the volume isn't positive.
     NotClosed { open_edges: u64, six_volume: i128 },
     /// No facet of the mesh is left.
-    NoFacetLeft,
+    Flat,
     /// The mesh has so many bands, more than 200.
     TooTall(u64),
 }

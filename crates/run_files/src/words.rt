@@ -1,13 +1,13 @@
 ghost use Rattle.std.specs.Prelude.{◌≡◌, ◌⊎◌, ◌≤◌, ℕ, Some, None, Ok, Err, length, slice_get, IfOk, IfErr, OnErr};
 ghost use Rattle.seq_words.specs.declared.command.Command.{Command};
 ghost use Rattle.seq_words.specs.Usages.{texts};
-ghost use Rattle.seq_words.specs.declared.command.WordsError.{WordsError};
+ghost use Rattle.seq_words.specs.declared.command.Words.{Words};
 ghost use Rattle.run_files.specs.Files.{name_in, name_or};
 ghost use Rattle.run_files.specs.Words.{IsSoundRequest, arranging, request_by, request_of, requested};
 
 use crate::NamedFile;
 use owned_lists::{Items, Text};
-use seq_words::{Command, WordsError, read};
+use seq_words::{Command, Words, read};
 use std::alloc::Global;
 
 /// What is to be done with the files.
@@ -48,11 +48,11 @@ fn request_by(
     printer: Text,
     plan: Option<Text>,
     meshes: Items<Text>,
-) -> Result<Request, WordsError>
+) -> Result<Request, Words>
     ensures asked { result ≡ request_by task printer plan meshes }
 {
     if meshes.is_empty() {
-        Err(WordsError::Usage)
+        Err(Words::Usage)
     } else {
         Ok(Request::OfFiles(Asked {
             task,
@@ -64,13 +64,13 @@ fn request_by(
 }
 
 // What `slices` asks for.
-fn request_to_slice(alloc: Global, printer: Text, mesh: Text) -> Result<Request, WordsError>
+fn request_to_slice(alloc: Global, printer: Text, mesh: Text) -> Result<Request, Words>
     ensures asked { IfOk result (λ r. request_of (Command.Slices printer mesh) ≡ Ok r) }
-    ensures refused { IfErr result (λ why. why ≡ WordsError.NoMemory) }
+    ensures refused { IfErr result (λ why. why ≡ Words.NoMemory) }
 {
     let mut meshes = Items::new(alloc);
     if meshes.push(mesh).is_err() {
-        return Err(WordsError::NoMemory);
+        return Err(Words::NoMemory);
     }
     Ok(Request::OfFiles(Asked {
         task: Task::Slices,
@@ -91,10 +91,10 @@ fn arranging(least: bool, strict: bool, budget: u64) -> Task
 }
 
 // What a command asks for.
-fn request_of(alloc: Global, command: Command) -> Result<Request, WordsError>
+fn request_of(alloc: Global, command: Command) -> Result<Request, Words>
     ensures asked { IfOk result (λ r. request_of command ≡ Ok r) }
     ensures refused { IfErr result (λ why.
-        (why ≡ WordsError.NoMemory) ⊎ (request_of command ≡ Err why)) }
+        (why ≡ Words.NoMemory) ⊎ (request_of command ≡ Err why)) }
 {
     match command {
         Command::Arrange {
@@ -120,11 +120,11 @@ fn request_of(alloc: Global, command: Command) -> Result<Request, WordsError>
 }
 
 /// What the words ask for.
-pub fn read_request(alloc: Global, words: &[String]) -> Result<Request, WordsError>
+pub fn read_request(alloc: Global, words: &[String]) -> Result<Request, Words>
     ensures asked { IfOk result (λ r. requested (texts words.now) ≡ Ok r) }
     ensures is { IfOk result IsSoundRequest }
     ensures refused { IfErr result (λ why.
-        (why ≡ WordsError.NoMemory) ⊎ (requested (texts words.now) ≡ Err why)) }
+        (why ≡ Words.NoMemory) ⊎ (requested (texts words.now) ≡ Err why)) }
 {
     match read(alloc, words) {
         Ok(command) => request_of(alloc, command),

@@ -1,45 +1,45 @@
 ghost use Rattle.std.specs.Prelude.{◌≡◌, ◌++◌, pos, codes, IfOk, OnOk};
 ghost use Rattle.seq_num.specs.Spelling.{spelling};
 ghost use Rattle.mesh_notes.specs.Notes.{looks_text};
-ghost use Rattle.run_lines.specs.Messages.{block_text, decimal_text, detail_of, input_line, key_text, line_text, plan_text, printer_error_text, refused_line, stl_text, table_text, what_text, words_line};
+ghost use Rattle.run_lines.specs.Messages.{block_text, decimal_text, detail_of, input_line, key_text, line_text, plan_text, prn_text, refused_line, stl_text, table_text, what_text, words_line};
 
-use cert_text::BlockError;
-use decimal_lengths::DecimalError;
+use cert_text::CertRead;
+use decimal_lengths::Decimal;
 use mesh_notes::put_looks;
-use plan_text::PlanError;
-use printer_text::{PrinterError, key_text as spelled};
+use plan_text::PlanRead;
+use printer_text::{Prn, key_text as spelled};
 use run_files::{Cause, NamedFile};
 use seq_model::What;
-use seq_words::{Opt, WordsError};
+use seq_words::{Opt, Words};
 use std::alloc::{AllocError, Global};
-use stl_text::{StlError, text_of};
+use stl_text::{Stl, text_of};
 use text_lines::put_number;
 
 /// The line of refused words.
-pub fn words_line(why: WordsError) -> &'static [u8]
+pub fn words_line(why: Words) -> &'static [u8]
     ensures { result.now ≡ words_line why }
 {
     match why {
-        WordsError::Unknown => b"words: unknown command\n",
-        WordsError::Usage => b"words: usage\n",
-        WordsError::BadNumber(Opt::Budget) => b"words: bad number for --budget\n",
-        WordsError::BadNumber(Opt::K) => b"words: bad number for K\n",
-        WordsError::BadNumber(Opt::N) => b"words: bad number for N\n",
-        WordsError::TooMany => b"words: more than 16 meshes\n",
-        WordsError::NoMemory => b"memory\n",
+        Words::Unknown => b"words: unknown command\n",
+        Words::Usage => b"words: usage\n",
+        Words::BadNumber(Opt::Budget) => b"words: bad number for --budget\n",
+        Words::BadNumber(Opt::K) => b"words: bad number for K\n",
+        Words::BadNumber(Opt::N) => b"words: bad number for N\n",
+        Words::TooMany => b"words: more than 16 meshes\n",
+        Words::NoMemory => b"memory\n",
     }
 }
 
 // Appends why a word is no length.
-fn put_decimal(to: &mut Vec<u8>, cause: DecimalError) -> Result<(), AllocError>
+fn put_decimal(to: &mut Vec<u8>, cause: Decimal) -> Result<(), AllocError>
     ensures { OnOk result (to.new.items ≡ to.old.items ++ decimal_text cause) }
 {
     match cause {
-        DecimalError::Empty => to.extend_from_slice(b"empty"),
-        DecimalError::TooLong => to.extend_from_slice(b"too long"),
-        DecimalError::BadByte(place) => put_number(to, b"bad byte at ", i128::from(place)),
-        DecimalError::NoDigit => to.extend_from_slice(b"no digit"),
-        DecimalError::TooFar => to.extend_from_slice(b"too far"),
+        Decimal::Empty => to.extend_from_slice(b"empty"),
+        Decimal::TooLong => to.extend_from_slice(b"too long"),
+        Decimal::BadByte(place) => put_number(to, b"bad byte at ", i128::from(place)),
+        Decimal::NoDigit => to.extend_from_slice(b"no digit"),
+        Decimal::TooFar => to.extend_from_slice(b"too far"),
     }
 }
 
@@ -55,7 +55,7 @@ fn put_expected(to: &mut Vec<u8>, keyword: &str, place: u64) -> Result<(), Alloc
 }
 
 // Appends the place of a word that is no length, and why.
-fn put_bad_number(to: &mut Vec<u8>, place: u64, cause: DecimalError) -> Result<(), AllocError>
+fn put_bad_number(to: &mut Vec<u8>, place: u64, cause: Decimal) -> Result<(), AllocError>
     ensures { OnOk result (to.new.items
         ≡ to.old.items ++ (codes "number at " ++ (spelling (pos place) ++ (codes ": "
         ++ decimal_text cause)))) }
@@ -66,16 +66,16 @@ fn put_bad_number(to: &mut Vec<u8>, place: u64, cause: DecimalError) -> Result<(
 }
 
 // Appends why bytes are no mesh.
-fn put_stl(to: &mut Vec<u8>, e: StlError) -> Result<(), AllocError>
+fn put_stl(to: &mut Vec<u8>, e: Stl) -> Result<(), AllocError>
     ensures { OnOk result (to.new.items ≡ to.old.items ++ stl_text e) }
 {
     match e {
-        StlError::Binary => to.extend_from_slice(b"binary STL"),
-        StlError::Expected(keyword, place) => put_expected(to, text_of(keyword), place),
-        StlError::Number(place, cause) => put_bad_number(to, place, cause),
-        StlError::TooManyFacets => to.extend_from_slice(b"more than 200000 facets"),
-        StlError::NoFacet => to.extend_from_slice(b"no facet"),
-        StlError::NoMemory => Ok(()),
+        Stl::Binary => to.extend_from_slice(b"binary STL"),
+        Stl::Expected(keyword, place) => put_expected(to, text_of(keyword), place),
+        Stl::Number(place, cause) => put_bad_number(to, place, cause),
+        Stl::TooManyFacets => to.extend_from_slice(b"more than 200000 facets"),
+        Stl::NoFacet => to.extend_from_slice(b"no facet"),
+        Stl::NoMemory => Ok(()),
     }
 }
 
@@ -108,14 +108,14 @@ fn put_line(to: &mut Vec<u8>, words: &[u8], line: u64, what: What) -> Result<(),
 }
 
 // Appends why bytes are no plan.
-fn put_plan(to: &mut Vec<u8>, e: PlanError) -> Result<(), AllocError>
+fn put_plan(to: &mut Vec<u8>, e: PlanRead) -> Result<(), AllocError>
     ensures { OnOk result (to.new.items ≡ to.old.items ++ plan_text e) }
 {
     match e {
-        PlanError::Line(line, what) => put_line(to, b"plan line ", line, what),
-        PlanError::Missing => to.extend_from_slice(b"plan ends early"),
-        PlanError::Trailing => to.extend_from_slice(b"bytes after the plan"),
-        PlanError::NoMemory => Ok(()),
+        PlanRead::Line(line, what) => put_line(to, b"plan line ", line, what),
+        PlanRead::Missing => to.extend_from_slice(b"plan ends early"),
+        PlanRead::Trailing => to.extend_from_slice(b"bytes after the plan"),
+        PlanRead::NoMemory => Ok(()),
     }
 }
 
@@ -129,15 +129,15 @@ fn put_refused_line(to: &mut Vec<u8>, line: u64, fault: &[u8]) -> Result<(), All
 }
 
 // Appends why bytes are no tree block.
-fn put_block(to: &mut Vec<u8>, e: BlockError) -> Result<(), AllocError>
+fn put_block(to: &mut Vec<u8>, e: CertRead) -> Result<(), AllocError>
     ensures { OnOk result (to.new.items ≡ to.old.items ++ block_text e) }
 {
     match e {
-        BlockError::Line(line, what) => put_line(to, b"tree line ", line, what),
-        BlockError::Big(line) => put_refused_line(to, line, b": big"),
-        BlockError::Deep(line) => put_refused_line(to, line, b": deep"),
-        BlockError::Truncated => to.extend_from_slice(b"tree ends early"),
-        BlockError::NoMemory => Ok(()),
+        CertRead::Line(line, what) => put_line(to, b"tree line ", line, what),
+        CertRead::Big(line) => put_refused_line(to, line, b": big"),
+        CertRead::Deep(line) => put_refused_line(to, line, b": deep"),
+        CertRead::Truncated => to.extend_from_slice(b"tree ends early"),
+        CertRead::NoMemory => Ok(()),
     }
 }
 
@@ -164,20 +164,20 @@ fn put_key(to: &mut Vec<u8>, fault: &[u8], key: &str, table: u32) -> Result<(), 
 }
 
 // Appends why bytes describe no printer.
-fn put_printer_error(to: &mut Vec<u8>, e: &PrinterError) -> Result<(), AllocError>
-    ensures { OnOk result (to.new.items ≡ to.old.items ++ printer_error_text e.now) }
+fn put_prn(to: &mut Vec<u8>, e: &Prn) -> Result<(), AllocError>
+    ensures { OnOk result (to.new.items ≡ to.old.items ++ prn_text e.now) }
 {
     match e {
-        PrinterError::Toml => to.extend_from_slice(b"not TOML"),
-        PrinterError::Missing(key, table) => put_key(to, b"missing ", spelled(*key), *table),
-        PrinterError::Kind(key, table) => put_key(to, b"kind of ", spelled(*key), *table),
-        PrinterError::FloatLength(key, table) => put_key(to, b"float for ", spelled(*key), *table),
-        PrinterError::Number(key, table) => put_key(to, b"number of ", spelled(*key), *table),
-        PrinterError::Range(key, table) => put_key(to, b"range of ", spelled(*key), *table),
-        PrinterError::OffGrain(key, table) => put_key(to, b"off grain ", spelled(*key), *table),
-        PrinterError::Unknown(key, table) => put_key(to, b"unknown key ", key.as_str(), *table),
-        PrinterError::TooManyParts => to.extend_from_slice(b"more than 12 parts"),
-        PrinterError::NoMemory => Ok(()),
+        Prn::Toml => to.extend_from_slice(b"not TOML"),
+        Prn::Missing(key, table) => put_key(to, b"missing ", spelled(*key), *table),
+        Prn::Kind(key, table) => put_key(to, b"kind of ", spelled(*key), *table),
+        Prn::FloatLength(key, table) => put_key(to, b"float for ", spelled(*key), *table),
+        Prn::Number(key, table) => put_key(to, b"number of ", spelled(*key), *table),
+        Prn::Range(key, table) => put_key(to, b"range of ", spelled(*key), *table),
+        Prn::OffGrain(key, table) => put_key(to, b"off grain ", spelled(*key), *table),
+        Prn::Unknown(key, table) => put_key(to, b"unknown key ", key.as_str(), *table),
+        Prn::TooManyParts => to.extend_from_slice(b"more than 12 parts"),
+        Prn::NoMemory => Ok(()),
     }
 }
 
@@ -208,7 +208,7 @@ fn put_detail(to: &mut Vec<u8>, file: NamedFile, cause: &Cause) -> Result<(), Al
 {
     match cause {
         Cause::TooLong => to.extend_from_slice(too_long(file)),
-        Cause::Printer(e) => put_printer_error(to, e),
+        Cause::Printer(e) => put_prn(to, e),
         Cause::Plan(e) => put_plan(to, *e),
         Cause::Block(e) => put_block(to, *e),
         Cause::Stl(e) => put_stl(to, *e),
@@ -216,7 +216,7 @@ fn put_detail(to: &mut Vec<u8>, file: NamedFile, cause: &Cause) -> Result<(), Al
             open_edges,
             six_volume,
         } => put_not_closed(to, *open_edges, *six_volume),
-        Cause::NoFacetLeft => to.extend_from_slice(b"no facet is left"),
+        Cause::Flat => to.extend_from_slice(b"no facet is left"),
         Cause::TooTall(bands) => put_number(to, b"more than 200 bands: ", i128::from(*bands)),
     }
 }

@@ -12,11 +12,10 @@ pub const MOST_BANDS: u32 = 200;
 /// The most facets of a mesh, with those that are dropped.
 pub const MOST_FACETS: usize = 200_000;
 
-/// The greatest budget, and the most splits above a node of a tree. A search splits no node once its tree has as many nodes as
-/// the budget.
+/// The most nodes that a search may look at, and the most splits above a node of a tree.
 pub const MOST_NODES: u64 = 1_000_000;
 
-/// The budget where the words don't say.
+/// The nodes that a search may look at where the words don't say.
 pub const USUAL_NODES: u64 = 20_000;
 
 /// The greatest size of a coordinate of a mesh, and the greatest height at which a part begins or ends, in micrometres: 10 m.

@@ -43,7 +43,7 @@ text_kept parts keeps z places Audits.Good = refl
 text_kept parts keeps z places (Audits.Stray k) = refl
 text_kept parts keeps z places (Audits.Absent o) = refl
 text_kept parts keeps z places (Audits.OffPlate k) = refl
-text_kept parts keeps z places (Audits.Collides h) = subst (λ n. audit_text keeps places (Audits.Collides h) ≡ hit_line (object_of places h.earlier) (object_of places h.later) h.earlier_band h.later_band h.part n) (name_kept parts keeps z h.part) refl
+text_kept parts keeps z places (Audits.Collides h) = subst (λ n. audit_text keeps places (Audits.Collides h) ≡ hit_line (object_of places h.earlier) (object_of places h.later) h.c h.b h.part n) (name_kept parts keeps z h.part) refl
 
 -- the verdict of the job is that of the scene of its files
 verdict_of_files : (d : Description) (meshes : List NamedMesh) (job : Job) → IsJobOf d meshes job → (e : ℕ) (plan : Plan) (v : Audit) → IsVerdict (scene_of_job job) e plan v → IsVerdict (scene_of_files d (facets_of meshes)) e plan v

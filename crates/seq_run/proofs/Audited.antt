@@ -114,8 +114,8 @@ hit_back s t a scale places known h x =
     let known_i = known h.earlier (before x.in_order x.stands) in
     let known_j = known h.later x.stands in
     let part = subst (λ n. h.part < n) (sym (as_many s.parts t.parts a.parts)) x.part_of_scene in
-    let b_in = subst (λ n. h.later_band < n) (sym (a.bands j known_j)) x.band_of_later in
-    let c_in = subst (λ n. h.earlier_band < n) (sym (a.bands i known_i)) x.band_of_earlier in
+    let b_in = subst (λ n. h.b < n) (sym (a.bands j known_j)) x.band_of_later in
+    let c_in = subst (λ n. h.c < n) (sym (a.bands i known_i)) x.band_of_earlier in
     let same = nth_same s.parts t.parts a.parts h.part part in
     record {
       in_order = x.in_order;
@@ -123,8 +123,8 @@ hit_back s t a scale places known h x =
       band_of_later = b_in;
       band_of_earlier = c_in;
       part_of_scene = part;
-      meets = meets_back (part_of s h.part) (part_of t h.part) h.later_band h.earlier_band same x.meets;
-      overlap = overlap_back (place_point scale (nth places h.earlier)) (place_point scale (nth places h.later)) (a.outlines i h.earlier_band known_i c_in) (a.outlines j h.later_band known_j b_in) same.outline x.overlap;
+      meets = meets_back (part_of s h.part) (part_of t h.part) h.b h.c same x.meets;
+      overlap = overlap_back (place_point scale (nth places h.earlier)) (place_point scale (nth places h.later)) (a.outlines i h.c known_i c_in) (a.outlines j h.b known_j b_in) same.outline x.overlap;
     }
   where
     before : {m n l : ℕ} → m < n → n < l → m < l

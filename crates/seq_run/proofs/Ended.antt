@@ -11,8 +11,8 @@ use Rattle.seq_run.specs.Runs.{AskedEnds, RunEnds, IsAnswered, IsTried, TrialEnd
 use Rattle.seq_run.specs.Statuses.{IsOneOf, code_of, status_of}
 use Rattle.run_files.specs.Stops.{Explains, IsUntouched, WantsMemory}
 use Rattle.run_files.specs.Words.{Asks, Tries, requested}
-use Rattle.seq_words.specs.declared.command.WordsError.{WordsError}
-use Rattle.seq_words.specs.declared.command.WordsError.TheVariants as Refusals
+use Rattle.seq_words.specs.declared.command.Words.{Words}
+use Rattle.seq_words.specs.declared.command.Words.TheVariants as Refusals
 use Rattle.seq_run.specs.declared.status.Status.{Status}
 use Rattle.seq_run.specs.declared.status.Status.TheVariants.{Answered, WrongWords, ReadFault, WrongFile, WriteFault, NoMemory}
 use Rattle.seq_run.specs.declared.status.Verdict.{Verdict}
@@ -68,16 +68,16 @@ ends_once WriteFault = omega arith
 ends_once NoMemory = omega arith
 
 -- what the words ask for is one thing
-abbrev accepted : Asked → Result Request WordsError
+abbrev accepted : Asked → Result Request Words
 accepted a = Ok (OfFiles a)
 
-asked-one : (r : Result Request WordsError) (a b : Asked) → r ≡ Ok (OfFiles a) → r ≡ Ok (OfFiles b) → b ≡ a
+asked-one : (r : Result Request Words) (a b : Asked) → r ≡ Ok (OfFiles a) → r ≡ Ok (OfFiles b) → b ≡ a
 asked-one r a b e f = inside b a (sym f ∙ e)
   where
     inside : (x y : Asked) → accepted x ≡ accepted y → x ≡ y
     inside x y same = cc
 
-refused-asked : (r : Result Request WordsError) (x : Request) → IsErr r → r ≡ Ok x → ⊥
+refused-asked : (r : Result Request Words) (x : Request) → IsErr r → r ≡ Ok x → ⊥
 refused-asked (Ok b) x h e = absurd (cc h)
 refused-asked (Err why) x h e = absurd (cc e)
 
@@ -93,16 +93,16 @@ faultless files a n = record { inputs = n.inputs; usable = n.usable }
 faulty : (files : Option (List MemFile)) (a : Asked) → HasFaultyPlan files a → IsUsable files a
 faulty files a n = record { inputs = n.inputs; usable = n.usable }
 
-abbrev fine : Request → Result Request WordsError
+abbrev fine : Request → Result Request Words
 fine x = Ok x
 
-accepted-refused : (r : Result Request WordsError) (x : Request) (why : WordsError) → r ≡ Ok x → r ≡ Err why → ⊥
+accepted-refused : (r : Result Request Words) (x : Request) (why : Words) → r ≡ Ok x → r ≡ Err why → ⊥
 accepted-refused r x why p q = apart x why (sym p ∙ q)
   where
-    apart : (x : Request) (why : WordsError) → fine x ≡ Err why → ⊥
+    apart : (x : Request) (why : Words) → fine x ≡ Err why → ⊥
     apart x why same = absurd (cc same)
 
-asked-tried : (r : Result Request WordsError) (a : Asked) (objects seed : ℕ) → r ≡ Ok (OfFiles a) → r ≡ Ok (Trial objects seed) → ⊥
+asked-tried : (r : Result Request Words) (a : Asked) (objects seed : ℕ) → r ≡ Ok (OfFiles a) → r ≡ Ok (Trial objects seed) → ⊥
 asked-tried r a objects seed p q = apart a objects seed (sym p ∙ q)
   where
     apart : (a : Asked) (k n : ℕ) → fine (OfFiles a) ≡ fine (Trial k n) → ⊥

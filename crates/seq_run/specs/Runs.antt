@@ -17,7 +17,7 @@
 use Rattle.std.specs.Prelude.{◌≡◌, ◌⊎◌, ℕ, List, Err}
 use Rattle.seq_io.specs.Taken.{BrokeIn, Wrote}
 use Rattle.seq_io.specs.Views.{ShelfView, SinkView}
-use Rattle.seq_words.specs.declared.command.WordsError.TheVariants.{NoMemory}
+use Rattle.seq_words.specs.declared.command.Words.TheVariants.{NoMemory}
 use Rattle.run_files.specs.Files.{name_in}
 use Rattle.run_lines.specs.Messages.{words_line, read_line, input_line, line_of, memory_line}
 use Rattle.seq_run.specs.Printed.{Answers}
@@ -31,10 +31,10 @@ use Rattle.run_files.specs.declared.stop.Cause.{Cause}
 use Rattle.run_files.specs.declared.stop.NamedFile.{NamedFile}
 use Rattle.run_files.specs.declared.stop.Stop.{Stop}
 use Rattle.run_files.specs.declared.words.Asked.{Asked}
-use Rattle.seq_words.specs.declared.command.WordsError.{WordsError}
+use Rattle.seq_words.specs.declared.command.Words.{Words}
 
 pub record IsMisworded (words : List (List ℕ)) (s s' : ShelfView) (e e' : SinkView) : Type 0 where
-  pub why : WordsError
+  pub why : Words
   pub refused : requested words ≡ Err why
   pub shelf : IsUntouched s s'
   pub err : Wrote (words_line why) e e'
@@ -72,7 +72,7 @@ pub record IsWanting (words : List (List ℕ)) (s s' : ShelfView) (e e' : SinkVi
   pub err : Wrote memory_line e e'
 
 pub record WordsBroke (words : List (List ℕ)) (s s' : ShelfView) (e e' : SinkView) : Type 0 where
-  pub why : WordsError
+  pub why : Words
   pub refused : (why ≡ NoMemory) ⊎ (requested words ≡ Err why)
   pub shelf : IsUntouched s s'
   pub broke : BrokeIn (words_line why) e e'
@@ -145,7 +145,7 @@ TrialEnds objects seed e e' o o' Statuses.WriteFault = (BrokeIn memory_line e e'
 TrialEnds objects seed e e' o o' Statuses.NoMemory = Wrote memory_line e e' × (o' ≡ o)
 
 -- and of words that are refused
-abbrev pub RefusalEnds : WordsError → SinkView → SinkView → Status → Type 0
+abbrev pub RefusalEnds : Words → SinkView → SinkView → Status → Type 0
 RefusalEnds why e e' (Statuses.Answered verdict) = ⊥
 RefusalEnds why e e' Statuses.WrongWords = (why ≡ NoMemory → ⊥) × Wrote (words_line why) e e'
 RefusalEnds why e e' Statuses.ReadFault = ⊥

@@ -19,7 +19,7 @@ use run_lines::words_line;
 use seq_io::{Shelf, Sink, SinkFault, write_all};
 use seq_limits::MOST_OBJECTS;
 use seq_num::NoMemory;
-use seq_words::WordsError;
+use seq_words::Words;
 use std::alloc::Global;
 
 // What a task makes of what was loaded.
@@ -53,14 +53,14 @@ fn work<S: Shelf>(alloc: Global, asked: &Asked, shelf: &mut S) -> Result<Answer,
 }
 
 // Writes the line of refused words, which takes no memory.
-fn refuse<E: Sink>(why: WordsError, err: &mut E) -> Status
+fn refuse<E: Sink>(why: Words, err: &mut E) -> Status
     ensures { RefusalEnds why (E.shows err.old) (E.shows err.new) result }
 {
     if write_all(err, words_line(why)).is_err() {
         return Status::WriteFault;
     }
     match why {
-        WordsError::NoMemory => Status::NoMemory,
+        Words::NoMemory => Status::NoMemory,
         _ => Status::WrongWords,
     }
 }
@@ -177,8 +177,8 @@ pub fn run<S: Shelf, O: Sink, E: Sink>(
         → Asks (texts words.now.items) (HasEnough (Some files))
         → IsOneOf (0 ∷ 1 ∷ 3 ∷ 8 ∷ 9 ∷ []) result }
 
-    // 7: only where the plan that is to be audited isn't valid, or the claim that is to be checked doesn't pass; `out` took its
-    // first fault. Where it is so nothing but 3, 8 or 9 comes in its place.
+    // 7: exactly where the plan that is to be audited isn't valid, or the claim that is to be checked doesn't pass; `out` took its
+    // first fault.
     ensures fault { result ≡ 7 → HasAnswered Verdict.Fault (texts words.now.items)
         (S.shows shelf.old) (S.shows shelf.new)
         (E.shows err.old) (E.shows err.new) (O.shows out.old) (O.shows out.new) }
@@ -190,7 +190,7 @@ pub fn run<S: Shelf, O: Sink, E: Sink>(
     ensures trial { AsksTrial (texts words.now.items)
         → IsOneOf (0 ∷ 1 ∷ 6 ∷ 8 ∷ 9 ∷ []) result }
 
-    // 2: only where the words are refused; no file is started. Where they are nothing but 8 or 9 comes in its place.
+    // 2: exactly where the words are refused; no file is started.
     ensures words { result ≡ 2 → IsMisworded (texts words.now.items)
         (S.shows shelf.old) (S.shows shelf.new) (E.shows err.old) (E.shows err.new) }
     ensures words_always { IsErr (requested (texts words.now.items))
@@ -200,8 +200,7 @@ pub fn run<S: Shelf, O: Sink, E: Sink>(
     ensures read { result ≡ 3 → Asks (texts words.now.items) (λ a. IsUnreadFile a
         (S.shows shelf.old) (S.shows shelf.new) (E.shows err.old) (E.shows err.new)) }
 
-    // 4: only where the first file in word order that can't be used is refused for its bytes. Where there is one nothing but 3, 8
-    // or 9 comes in its place.
+    // 4: exactly where the first file in word order that can't be used is refused for its bytes.
     ensures input { result ≡ 4 → Asks (texts words.now.items) (λ a. IsWrongFile a
         (S.shows shelf.old) (S.shows shelf.new) (E.shows err.old) (E.shows err.new)) }
     ensures input_always { Asks (texts words.now.items) (IsUnusable (S.shows shelf.old).files)

@@ -11,7 +11,7 @@ pub enum Opt {
 
 /// Why the words are refused.
 #[derive(Debug, Clone, Copy, PartialEq, Eq)]
-pub enum WordsError {
+pub enum Words {
     /// There is no first word, or it names no command.
     Unknown,
     /// The rest isn't what the command takes.

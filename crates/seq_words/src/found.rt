@@ -3,7 +3,7 @@ ghost use Rattle.clap.specs.Words.{app_of, first_of, found_of, is_simple_and_fre
 ghost use Rattle.seq_words.specs.Usages.{label_of, is_given, rows_by, simple_command, text_of, texts, texts_of};
 ghost use Rattle.seq_words.specs.Asked.{IsDue, budget_in, meshes_in};
 
-use crate::command::{Opt, WordsError};
+use crate::command::{Opt, Words};
 use crate::numbers::number_for;
 use crate::usage::{Argument, Name, label, parser};
 use clap::error::ErrorKind;
@@ -18,23 +18,23 @@ pub(crate) fn found<'a>(
     name: &'a str,
     usage: &[Argument],
     words: &'a [String],
-) -> Result<ArgMatches<'a>, WordsError>
+) -> Result<ArgMatches<'a>, Words>
     requires { is_simple_and_free (simple_command name.now usage.now) ≡ true }
     ensures ok { IfOk result (λ m. rows_by (simple_command name.entry.now usage.now)
         (texts words.entry.now) ≡ Some (rows_of (found_of m))) }
-    ensures err { IfErr result (λ e. (e ≡ WordsError.NoMemory)
-        ⊎ ((e ≡ WordsError.Usage)
+    ensures err { IfErr result (λ e. (e ≡ Words.NoMemory)
+        ⊎ ((e ≡ Words.Usage)
         × (rows_by (simple_command name.entry.now usage.now) (texts words.entry.now) ≡ None))) }
 {
     parsed(parser(alloc, name, usage)?, words)
 }
 
-fn parsed<'a>(command: Parser<'a>, words: &'a [String]) -> Result<ArgMatches<'a>, WordsError>
+fn parsed<'a>(command: Parser<'a>, words: &'a [String]) -> Result<ArgMatches<'a>, Words>
     requires { is_simple_and_free (app_of command) ≡ true }
     ensures ok { IfOk result (λ m. rows_by (app_of command.entry) (texts words.entry.now)
         ≡ Some (rows_of (found_of m))) }
-    ensures err { IfErr result (λ e. (e ≡ WordsError.NoMemory)
-        ⊎ ((e ≡ WordsError.Usage) × (rows_by (app_of command.entry) (texts words.entry.now) ≡ None))) }
+    ensures err { IfErr result (λ e. (e ≡ Words.NoMemory)
+        ⊎ ((e ≡ Words.Usage) × (rows_by (app_of command.entry) (texts words.entry.now) ≡ None))) }
 {
     match command.try_get_matches_from(words) {
         Ok(matches) => Ok(matches),
@@ -43,14 +43,14 @@ fn parsed<'a>(command: Parser<'a>, words: &'a [String]) -> Result<ArgMatches<'a>
 }
 
 // Want of memory is no fault of the words.
-fn refusal(kind: ErrorKind) -> WordsError
-    ensures memory { kind ≡ ErrorKind.OutOfMemory → result ≡ WordsError.NoMemory }
-    ensures only { result ≡ WordsError.NoMemory → kind ≡ ErrorKind.OutOfMemory }
-    ensures two { (result ≡ WordsError.NoMemory) ⊎ (result ≡ WordsError.Usage) }
+fn refusal(kind: ErrorKind) -> Words
+    ensures memory { kind ≡ ErrorKind.OutOfMemory → result ≡ Words.NoMemory }
+    ensures only { result ≡ Words.NoMemory → kind ≡ ErrorKind.OutOfMemory }
+    ensures two { (result ≡ Words.NoMemory) ⊎ (result ≡ Words.Usage) }
 {
     match kind {
-        ErrorKind::OutOfMemory => WordsError::NoMemory,
-        _ => WordsError::Usage,
+        ErrorKind::OutOfMemory => Words::NoMemory,
+        _ => Words::Usage,
     }
 }
 
@@ -73,17 +73,13 @@ pub(crate) fn word<'a>(matches: &ArgMatches<'a>, name: Name) -> &'a str
 }
 
 /// The text of a positional, owned.
-pub(crate) fn text<'a>(
-    alloc: Global,
-    matches: &ArgMatches<'a>,
-    name: Name,
-) -> Result<Text, WordsError>
+pub(crate) fn text<'a>(alloc: Global, matches: &ArgMatches<'a>, name: Name) -> Result<Text, Words>
     ensures ok { IfOk result (λ text. text ≡ text_of name (rows_of (found_of matches.now))) }
-    ensures err { IfErr result (λ e. e ≡ WordsError.NoMemory) }
+    ensures err { IfErr result (λ e. e ≡ Words.NoMemory) }
 {
     match Text::from_str(alloc, word(matches, name)) {
         Ok(text) => Ok(text),
-        Err(_) => Err(WordsError::NoMemory),
+        Err(_) => Err(Words::NoMemory),
     }
 }
 
@@ -95,7 +91,7 @@ pub(crate) fn is_on<'a>(matches: &ArgMatches<'a>, name: Name) -> bool
 }
 
 /// The value of `--budget`, or the default.
-pub(crate) fn budget<'a>(matches: &ArgMatches<'a>) -> Result<u64, WordsError>
+pub(crate) fn budget<'a>(matches: &ArgMatches<'a>) -> Result<u64, Words>
     ensures value { result ≡ budget_in (rows_of (found_of matches.now)) }
     ensures limits { IfOk result (λ n. (1 ≤ n) × (n ≤ MOST_NODES)) }
 {
@@ -106,29 +102,25 @@ pub(crate) fn budget<'a>(matches: &ArgMatches<'a>) -> Result<u64, WordsError>
 }
 
 #[tactic(auto, using(std::proofs::lemmas::List::drop_more))]
-fn copies<'a>(alloc: Global, list: &[&'a str]) -> Result<Items<Text>, WordsError>
+fn copies<'a>(alloc: Global, list: &[&'a str]) -> Result<Items<Text>, Words>
     ensures ok { IfOk result (λ copies. copies ≡ map (λ s. s.now) list.now) }
-    ensures err { IfErr result (λ e. e ≡ WordsError.NoMemory) }
+    ensures err { IfErr result (λ e. e ≡ Words.NoMemory) }
 {
     let mut copies = Items::new(alloc);
     for text in list.iter() {
         let Ok(copy) = Text::from_str(alloc, text) else {
-            return Err(WordsError::NoMemory);
+            return Err(Words::NoMemory);
         };
         if copies.push(copy).is_err() {
-            return Err(WordsError::NoMemory);
+            return Err(Words::NoMemory);
         }
     }
     Ok(copies)
 }
 
-fn several<'a>(
-    alloc: Global,
-    matches: &ArgMatches<'a>,
-    name: Name,
-) -> Result<Items<Text>, WordsError>
+fn several<'a>(alloc: Global, matches: &ArgMatches<'a>, name: Name) -> Result<Items<Text>, Words>
     ensures ok { IfOk result (λ texts. texts ≡ texts_of name (rows_of (found_of matches.now))) }
-    ensures err { IfErr result (λ e. e ≡ WordsError.NoMemory) }
+    ensures err { IfErr result (λ e. e ≡ Words.NoMemory) }
 {
     match matches.get_raw(label(name)) {
         Some(list) => copies(alloc, list),
@@ -137,14 +129,14 @@ fn several<'a>(
 }
 
 /// The names of the meshes.
-pub(crate) fn meshes<'a>(alloc: Global, matches: &ArgMatches<'a>) -> Result<Items<Text>, WordsError>
+pub(crate) fn meshes<'a>(alloc: Global, matches: &ArgMatches<'a>) -> Result<Items<Text>, Words>
     ensures ok { IfOk result (λ meshes. meshes_in (rows_of (found_of matches.now)) ≡ Ok meshes) }
     ensures limits { IfOk result (λ meshes. length meshes ≤ MOST_OBJECTS) }
     ensures err { IfErr result (IsDue (meshes_in (rows_of (found_of matches.now)))) }
 {
     let meshes = several(alloc, matches, Name::Stl)?;
     if meshes.len() > MOST_OBJECTS {
-        return Err(WordsError::TooMany);
+        return Err(Words::TooMany);
     }
     Ok(meshes)
 }

@@ -17,5 +17,5 @@ mod numbers;
 mod reading;
 mod usage;
 
-pub use command::{Command, Opt, WordsError};
+pub use command::{Command, Opt, Words};
 pub use reading::read;

@@ -2,7 +2,7 @@ ghost use Rattle.std.specs.Prelude.{◌≡◌, ◌≤◌, length, IfSome, IfOk};
 ghost use Rattle.seq_words.specs.Numbers.{value_from, number_in};
 ghost use Rattle.seq_words.specs.Asked.{number_or};
 
-use crate::command::{Opt, WordsError};
+use crate::command::{Opt, Words};
 
 /// The number that at most ten digits spell.
 #[tactic(auto, using(std::proofs::lemmas::List::drop_more))]
@@ -35,12 +35,12 @@ fn number(low: u64, high: u64, text: &str) -> Option<u64>
 }
 
 /// The number from `low` to `high` that a text spells in one to ten digits, or else that of `opt` is bad.
-pub(crate) fn number_for(opt: Opt, low: u64, high: u64, text: &str) -> Result<u64, WordsError>
+pub(crate) fn number_for(opt: Opt, low: u64, high: u64, text: &str) -> Result<u64, Words>
     ensures value { result ≡ number_or opt (number_in low high text.now) }
     ensures limits { IfOk result (λ n. (low ≤ n) × (n ≤ high)) }
 {
     match number(low, high, text) {
         Some(number) => Ok(number),
-        None => Err(WordsError::BadNumber(opt)),
+        None => Err(Words::BadNumber(opt)),
     }
 }

@@ -2,7 +2,7 @@ ghost use Rattle.std.specs.Prelude.{◌≡◌, ◌⊎◌, IfOk, IfErr};
 ghost use Rattle.seq_words.specs.Usages.{texts};
 ghost use Rattle.seq_words.specs.Asked.{IsDue, IsWithinLimits, asked, asked_arrange, asked_audit, asked_check, asked_slices, asked_trial};
 
-use crate::command::{Command, Opt, WordsError};
+use crate::command::{Command, Opt, Words};
 use crate::found::{budget, found, is_on, meshes, text, word};
 use crate::numbers::number_for;
 use crate::usage::{ARRANGE, AUDIT, CHECK, Name, SLICES, TRIAL};
@@ -10,14 +10,14 @@ use seq_limits::MOST_OBJECTS;
 use std::alloc::Global;
 
 /// What the words ask for. They don't hold the program's name.
-pub fn read(alloc: Global, words: &[String]) -> Result<Command, WordsError>
+pub fn read(alloc: Global, words: &[String]) -> Result<Command, Words>
     ensures ok { IfOk result (λ command. asked (texts words.now) ≡ Ok command) }
     ensures limits { IfOk result IsWithinLimits }
-    ensures err { IfErr result (λ refusal. (refusal ≡ WordsError.NoMemory)
+    ensures err { IfErr result (λ refusal. (refusal ≡ Words.NoMemory)
         ⊎ (asked (texts words.now) ≡ Err refusal)) }
 {
     let Some(name) = words.first() else {
-        return Err(WordsError::Unknown);
+        return Err(Words::Unknown);
     };
     let name = name.as_str();
     if name == "arrange" {
@@ -31,12 +31,12 @@ pub fn read(alloc: Global, words: &[String]) -> Result<Command, WordsError>
     } else if name == "trial" {
         read_trial(alloc, words)
     } else {
-        Err(WordsError::Unknown)
+        Err(Words::Unknown)
     }
 }
 
 #[tactic(auto, using(crate::proofs::Free::arrange_is_free))]
-fn read_arrange(alloc: Global, words: &[String]) -> Result<Command, WordsError>
+fn read_arrange(alloc: Global, words: &[String]) -> Result<Command, Words>
     ensures ok { IfOk result (λ command. asked_arrange (texts words.now) ≡ Ok command) }
     ensures limits { IfOk result IsWithinLimits }
     ensures err { IfErr result (IsDue (asked_arrange (texts words.now))) }
@@ -57,7 +57,7 @@ fn read_arrange(alloc: Global, words: &[String]) -> Result<Command, WordsError>
 }
 
 #[tactic(auto, using(crate::proofs::Free::check_is_free))]
-fn read_check(alloc: Global, words: &[String]) -> Result<Command, WordsError>
+fn read_check(alloc: Global, words: &[String]) -> Result<Command, Words>
     ensures ok { IfOk result (λ command. asked_check (texts words.now) ≡ Ok command) }
     ensures limits { IfOk result IsWithinLimits }
     ensures err { IfErr result (IsDue (asked_check (texts words.now))) }
@@ -74,7 +74,7 @@ fn read_check(alloc: Global, words: &[String]) -> Result<Command, WordsError>
 }
 
 #[tactic(auto, using(crate::proofs::Free::audit_is_free))]
-fn read_audit(alloc: Global, words: &[String]) -> Result<Command, WordsError>
+fn read_audit(alloc: Global, words: &[String]) -> Result<Command, Words>
     ensures ok { IfOk result (λ command. asked_audit (texts words.now) ≡ Ok command) }
     ensures limits { IfOk result IsWithinLimits }
     ensures err { IfErr result (IsDue (asked_audit (texts words.now))) }
@@ -91,7 +91,7 @@ fn read_audit(alloc: Global, words: &[String]) -> Result<Command, WordsError>
 }
 
 #[tactic(auto, using(crate::proofs::Free::slices_is_free))]
-fn read_slices(alloc: Global, words: &[String]) -> Result<Command, WordsError>
+fn read_slices(alloc: Global, words: &[String]) -> Result<Command, Words>
     ensures ok { IfOk result (λ command. asked_slices (texts words.now) ≡ Ok command) }
     ensures limits { IfOk result IsWithinLimits }
     ensures err { IfErr result (IsDue (asked_slices (texts words.now))) }
@@ -103,7 +103,7 @@ fn read_slices(alloc: Global, words: &[String]) -> Result<Command, WordsError>
 }
 
 #[tactic(auto, using(crate::proofs::Free::trial_is_free))]
-fn read_trial(alloc: Global, words: &[String]) -> Result<Command, WordsError>
+fn read_trial(alloc: Global, words: &[String]) -> Result<Command, Words>
     ensures ok { IfOk result (λ command. asked_trial (texts words.now) ≡ Ok command) }
     ensures limits { IfOk result IsWithinLimits }
     ensures err { IfErr result (IsDue (asked_trial (texts words.now))) }

@@ -2,7 +2,7 @@ ghost use Rattle.std.specs.Prelude.{◌≡◌, false, IfOk, IfErr};
 ghost use Rattle.clap.specs.Words.{app_of, with_rule, rule_of as clap_rule};
 ghost use Rattle.seq_words.specs.Usages.{label_of, rule_of, simple_command};
 
-use crate::command::WordsError;
+use crate::command::Words;
 use clap::{Arg, ArgAction, Command as Parser};
 use std::alloc::Global;
 
@@ -102,13 +102,13 @@ fn with_argument<'a>(
     alloc: Global,
     command: Parser<'a>,
     argument: Argument,
-) -> Result<Parser<'a>, WordsError>
+) -> Result<Parser<'a>, Words>
     ensures ok { IfOk result (λ more. app_of more ≡ with_rule (app_of command.entry) (rule_of argument)) }
-    ensures err { IfErr result (λ e. e ≡ WordsError.NoMemory) }
+    ensures err { IfErr result (λ e. e ≡ Words.NoMemory) }
 {
     match command.arg(rule(alloc, argument)) {
         Ok(more) => Ok(more),
-        Err(_) => Err(WordsError::NoMemory),
+        Err(_) => Err(Words::NoMemory),
     }
 }
 
@@ -118,9 +118,9 @@ pub(crate) fn parser<'a>(
     alloc: Global,
     name: &'a str,
     usage: &[Argument],
-) -> Result<Parser<'a>, WordsError>
+) -> Result<Parser<'a>, Words>
     ensures ok { IfOk result (λ command. app_of command ≡ simple_command name.entry.now usage.now) }
-    ensures err { IfErr result (λ e. e ≡ WordsError.NoMemory) }
+    ensures err { IfErr result (λ e. e ≡ Words.NoMemory) }
 {
     let mut command = Parser::new(alloc, name);
     for argument in usage {

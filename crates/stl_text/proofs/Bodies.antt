@@ -6,8 +6,8 @@ use Rattle.std.proofs.Common.{◌≡◌, ◌∙◌, ℕ, ◌+◌, ◌≤◌, Lis
 use Rattle.std.proofs.lemmas.List.Elements.{All-nil, All-cons, All-append}
 use Rattle.seq_model.specs.declared.mesh.Facet.{Facet}
 use Rattle.seq_model.specs.Bounds.{IsNearFacet}
-use Rattle.stl_text.specs.declared.StlError.{StlError}
-use Rattle.stl_text.specs.declared.StlError.TheVariants.{NoMemory, NoFacet}
+use Rattle.stl_text.specs.declared.Stl.{Stl}
+use Rattle.stl_text.specs.declared.Stl.TheVariants.{NoMemory, NoFacet}
 use Rattle.stl_text.specs.declared.found.Found.{Found}
 use Rattle.stl_text.specs.declared.parts.Part.{Part}
 use Rattle.stl_text.specs.declared.parts.Part.TheVariants as Parts
@@ -33,7 +33,7 @@ near_with f before after (drops h e) near all = rw e all
 
 -- ---- a part decides what the body reads
 module _ (bytes : List ℕ) where
-  only_facet : (at to : ℕ) (f : Facet) (before after : Found) (r s : Result Found StlError) → Body bytes at before s → ReadsOnly (part bytes at (count before)) (Ok (Parts.Facet f to)) → WithFacet f before after → ReadsOnly (body bytes to after) r → s ≡ r
+  only_facet : (at to : ℕ) (f : Facet) (before after : Found) (r s : Result Found Stl) → Body bytes at before s → ReadsOnly (part bytes at (count before)) (Ok (Parts.Facet f to)) → WithFacet f before after → ReadsOnly (body bytes to after) r → s ≡ r
   only_facet at to f before after r s (facet {to = to'} {f = f'} {after = after'} p w b) reads with_f rest =
       let e = reads.only (Ok (Parts.Facet f' to')) p in
       let to_is : to' ≡ to = cc in
@@ -47,7 +47,7 @@ module _ (bytes : List ℕ) where
   only_facet at to f before after r s (end p g) reads with_f rest = let e = reads.only (Ok (Parts.Ending None)) p in absurd cc
   only_facet at to f before after r s (refused {e = e'} p g) reads with_f rest = let e = reads.only (Err e') p in absurd cc
 
-  only_solid : (at to : ℕ) (before : Found) (r s : Result Found StlError) → Body bytes at before s → ReadsOnly (part bytes at (count before)) (Ok (Parts.Ending (Some to))) → ReadsOnly (body bytes to before) r → s ≡ r
+  only_solid : (at to : ℕ) (before : Found) (r s : Result Found Stl) → Body bytes at before s → ReadsOnly (part bytes at (count before)) (Ok (Parts.Ending (Some to))) → ReadsOnly (body bytes to before) r → s ≡ r
   only_solid at to before r s (facet {to = to'} {f = f'} p w b) reads rest = let e = reads.only (Ok (Parts.Facet f' to')) p in absurd cc
   only_solid at to before r s (solid {to = to'} p b) reads rest =
       let e = reads.only (Ok (Parts.Ending (Some to'))) p in
@@ -57,13 +57,13 @@ module _ (bytes : List ℕ) where
   only_solid at to before r s (end p g) reads rest = let e = reads.only (Ok (Parts.Ending None)) p in absurd cc
   only_solid at to before r s (refused {e = e'} p g) reads rest = let e = reads.only (Err e') p in absurd cc
 
-  only_end : (at : ℕ) (before : Found) (s : Result Found StlError) → Body bytes at before s → ReadsOnly (part bytes at (count before)) (Ok (Parts.Ending None)) → s ≡ Ok before
+  only_end : (at : ℕ) (before : Found) (s : Result Found Stl) → Body bytes at before s → ReadsOnly (part bytes at (count before)) (Ok (Parts.Ending None)) → s ≡ Ok before
   only_end at before s (facet {to = to'} {f = f'} p w b) reads = let e = reads.only (Ok (Parts.Facet f' to')) p in absurd cc
   only_end at before s (solid {to = to'} p b) reads = let e = reads.only (Ok (Parts.Ending (Some to'))) p in absurd cc
   only_end at before s (end p g) reads = g
   only_end at before s (refused {e = e'} p g) reads = let e = reads.only (Err e') p in absurd cc
 
-  only_refused : (at : ℕ) (before : Found) (why : StlError) (s : Result Found StlError) → Body bytes at before s → ReadsOnly (part bytes at (count before)) (Err why) → s ≡ Err why
+  only_refused : (at : ℕ) (before : Found) (why : Stl) (s : Result Found Stl) → Body bytes at before s → ReadsOnly (part bytes at (count before)) (Err why) → s ≡ Err why
   only_refused at before why s (facet {to = to'} {f = f'} p w b) reads = let e = reads.only (Ok (Parts.Facet f' to')) p in absurd cc
   only_refused at before why s (solid {to = to'} p b) reads = let e = reads.only (Ok (Parts.Ending (Some to'))) p in absurd cc
   only_refused at before why s (end p g) reads = let e = reads.only (Ok (Parts.Ending None)) p in absurd cc
@@ -74,11 +74,11 @@ pub record SoFar (bytes : List ℕ) (first at : ℕ) (found : Found) : Type 0 wh
   pub within : at ≤ length bytes
   pub few : count found ≤ 200_000
   pub near : All IsNearFacet found.facets
-  pub comes : (r : Result Found StlError) → ReadsOnly (body bytes at found) r → ReadsOnly (body bytes first nothing) r
+  pub comes : (r : Result Found Stl) → ReadsOnly (body bytes at found) r → ReadsOnly (body bytes first nothing) r
 
 -- `n` and `next` are what the code holds: the count, and the part that it was given
 module _ (bytes : List ℕ) (first at n : ℕ) (found : Found) (so_far : SoFar bytes first at found) (counted : n ≡ count found) where
-  reads_at : (r : Result Part StlError) → ReadsOnly (part bytes at n) r → ReadsOnly (part bytes at (count found)) r
+  reads_at : (r : Result Part Stl) → ReadsOnly (part bytes at n) r → ReadsOnly (part bytes at (count found)) r
   reads_at r reads =
       let P : ℕ → Type 0 = λ k. ReadsOnly (part bytes at k) r in
       subst P counted reads
@@ -118,14 +118,14 @@ module _ (bytes : List ℕ) (first at n : ℕ) (found : Found) (so_far : SoFar b
       let here = reads_at (Ok (Parts.Ending None)) (rw is at reads) in
       so_far.comes (Ok found) (record { stands = end here.stands refl; only = λ s b. only_end bytes at found s b here })
 
-  pub body_refused : (why : StlError) → ReadsOnly (part bytes at n) (Err why) → ReadsOnly (body bytes first nothing) (Err why)
+  pub body_refused : (why : Stl) → ReadsOnly (part bytes at n) (Err why) → ReadsOnly (body bytes first nothing) (Err why)
   body_refused why reads =
       let here = reads_at (Err why) reads in
       so_far.comes (Err why) (record { stands = refused here.stands refl; only = λ s b. only_refused bytes at found why s b here })
 
 -- ---- the whole file
 module _ (bytes : List ℕ) (first : ℕ) (text : ¬ IsBinary bytes) (opened : ReadsOnly (opening bytes 0) (Ok first)) where
-  pub file_refused : (e : StlError) → (e ≡ NoMemory) ⊎ ReadsOnly (body bytes first nothing) (Err e) → (e ≡ NoMemory) ⊎ IsRefused bytes e
+  pub file_refused : (e : Stl) → (e ≡ NoMemory) ⊎ ReadsOnly (body bytes first nothing) (Err e) → (e ≡ NoMemory) ⊎ IsRefused bytes e
   file_refused e (inl memory) = inl memory
   file_refused e (inr reads) = inr (no_reads _ _ _ _ text (passes_reads _ _ _ _ opened (stops_reads _ _ _ reads)))
 

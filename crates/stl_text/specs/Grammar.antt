@@ -18,13 +18,13 @@
 --                             the end of the file
 --   part bytes at count       what stands next in a solid, `count` facets before it: a facet or the end of the solid
 use Rattle.std.specs.Prelude.{◌≡◌, ℕ, ◌<◌, ℤ, List, codes, Option, Some, None, Result, Ok, Err}
-use Rattle.decimal_lengths.specs.declared.DecimalError.{DecimalError}
+use Rattle.decimal_lengths.specs.declared.Decimal.{Decimal}
 use Rattle.decimal_lengths.specs.Lengths.{IsReadAs}
 use Rattle.decimal_lengths.specs.Refusals.{Refuses}
 use Rattle.seq_model.specs.declared.mesh.Point3.{Point3}
 use Rattle.seq_model.specs.declared.mesh.Facet.{Facet}
-use Rattle.stl_text.specs.declared.StlError.{StlError}
-use Rattle.stl_text.specs.declared.StlError.TheVariants.{Expected, Number, TooManyFacets}
+use Rattle.stl_text.specs.declared.Stl.{Stl}
+use Rattle.stl_text.specs.declared.Stl.TheVariants.{Expected, Number, TooManyFacets}
 use Rattle.stl_text.specs.declared.Keyword.{Keyword}
 use Rattle.stl_text.specs.declared.Keyword.TheVariants as Keywords
 use Rattle.stl_text.specs.declared.words.Word.{Word}
@@ -46,7 +46,7 @@ text_of Keywords.Vertex = codes "vertex"
 text_of Keywords.Endloop = codes "endloop"
 text_of Keywords.Endfacet = codes "endfacet"
 
-pub record NextWord (bytes : List ℕ) (at : ℕ) (r : Result Word StlError) : Type 0 where
+pub record NextWord (bytes : List ℕ) (at : ℕ) (r : Result Word Stl) : Type 0 where
   pub word : Word
   pub is : IsNext bytes at word
   pub given : r ≡ Ok word
@@ -54,7 +54,7 @@ pub record NextWord (bytes : List ℕ) (at : ℕ) (r : Result Word StlError) : T
 abbrev pub next : List ℕ → ℕ → Reading Word
 next bytes at = NextWord bytes at
 
-pub record RestOfLine (bytes : List ℕ) (at : ℕ) (r : Result ℕ StlError) : Type 0 where
+pub record RestOfLine (bytes : List ℕ) (at : ℕ) (r : Result ℕ Stl) : Type 0 where
   pub to : ℕ
   pub is : IsRest bytes at to
   pub given : r ≡ Ok to
@@ -63,8 +63,8 @@ abbrev pub rest : List ℕ → ℕ → Reading ℕ
 rest bytes at = RestOfLine bytes at
 
 -- the length that the text at a place spells
-pub record IsNoLength (text : List ℕ) (place : ℕ) (e : StlError) : Type 0 where
-  pub cause : DecimalError
+pub record IsNoLength (text : List ℕ) (place : ℕ) (e : Stl) : Type 0 where
+  pub cause : Decimal
   pub refused : Refuses text cause
   pub told : e ≡ Number place cause
 

@@ -10,8 +10,8 @@
 --   IsRefused bytes e               the bytes are refused so, and nothing else
 use Rattle.std.specs.Prelude.{◌≡◌, ℕ, ◌+◌, ◌*◌, ◌≤◌, ◌<◌, List, [], ◌∷◌, ◌++◌, length, slice_index, Some, None, Result, Ok, Err}
 use Rattle.seq_model.specs.declared.mesh.Facet.{Facet}
-use Rattle.stl_text.specs.declared.StlError.{StlError}
-use Rattle.stl_text.specs.declared.StlError.TheVariants.{Binary, NoFacet}
+use Rattle.stl_text.specs.declared.Stl.{Stl}
+use Rattle.stl_text.specs.declared.Stl.TheVariants.{Binary, NoFacet}
 use Rattle.stl_text.specs.declared.parts.Part.TheVariants as Parts
 use Rattle.stl_text.specs.declared.found.Found.{Found}
 use Rattle.stl_text.specs.Reading.{Reading, gives, refuses, ◌>>=◌, choice, ReadsOnly}
@@ -40,11 +40,11 @@ pub data WithFacet (f : Facet) (before after : Found) : Type 0 where
   keeps : HasThreeCorners f → after ≡ record { facets = before.facets ++ f ∷ []; dropped = before.dropped } → WithFacet f before after
   drops : ¬ HasThreeCorners f → after ≡ record { facets = before.facets; dropped = before.dropped + 1 } → WithFacet f before after
 
-pub data Body (bytes : List ℕ) : ℕ → Found → Result Found StlError → Type 0 where
-  facet : {at to : ℕ} {f : Facet} {before after : Found} {r : Result Found StlError} → part bytes at (count before) (Ok (Parts.Facet f to)) → WithFacet f before after → Body bytes to after r → Body bytes at before r
-  solid : {at to : ℕ} {before : Found} {r : Result Found StlError} → part bytes at (count before) (Ok (Parts.Ending (Some to))) → Body bytes to before r → Body bytes at before r
-  end : {at : ℕ} {before : Found} {r : Result Found StlError} → part bytes at (count before) (Ok (Parts.Ending None)) → r ≡ Ok before → Body bytes at before r
-  refused : {at : ℕ} {before : Found} {e : StlError} {r : Result Found StlError} → part bytes at (count before) (Err e) → r ≡ Err e → Body bytes at before r
+pub data Body (bytes : List ℕ) : ℕ → Found → Result Found Stl → Type 0 where
+  facet : {at to : ℕ} {f : Facet} {before after : Found} {r : Result Found Stl} → part bytes at (count before) (Ok (Parts.Facet f to)) → WithFacet f before after → Body bytes to after r → Body bytes at before r
+  solid : {at to : ℕ} {before : Found} {r : Result Found Stl} → part bytes at (count before) (Ok (Parts.Ending (Some to))) → Body bytes to before r → Body bytes at before r
+  end : {at : ℕ} {before : Found} {r : Result Found Stl} → part bytes at (count before) (Ok (Parts.Ending None)) → r ≡ Ok before → Body bytes at before r
+  refused : {at : ℕ} {before : Found} {e : Stl} {r : Result Found Stl} → part bytes at (count before) (Err e) → r ≡ Err e → Body bytes at before r
 
 abbrev pub body : List ℕ → ℕ → Found → Reading Found
 body bytes at before = Body bytes at before
@@ -61,5 +61,5 @@ File bytes = choice (IsBinary bytes) (refuses Binary) (
 abbrev pub MeshOf : List ℕ → List Facet → ℕ → Type 0
 MeshOf bytes facets dropped = ReadsOnly (File bytes) (Ok (record { facets = facets; dropped = dropped }))
 
-abbrev pub IsRefused : List ℕ → StlError → Type 0
+abbrev pub IsRefused : List ℕ → Stl → Type 0
 IsRefused bytes e = ReadsOnly (File bytes) (Err e)

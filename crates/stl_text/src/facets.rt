@@ -6,7 +6,7 @@ ghost use Rattle.stl_text.specs.Grammar.{text_of, keyword, any_word, number, ver
 ghost use Rattle.stl_text.specs.Reading.{ReadsOnly};
 
 use crate::words::{is_spelled, next_word};
-use crate::{Keyword, StlError};
+use crate::{Keyword, Stl};
 use decimal_lengths::read_um;
 use seq_limits::FARTHEST;
 use seq_model::{Facet, Point3};
@@ -29,7 +29,7 @@ pub fn text_of(keyword: Keyword) -> &'static str
 }
 
 /// The place behind the next word, which must be the keyword's.
-pub fn keyword(bytes: &[u8], at: usize, wanted: Keyword) -> Result<usize, StlError>
+pub fn keyword(bytes: &[u8], at: usize, wanted: Keyword) -> Result<usize, Stl>
     requires { at ≤ length bytes.now }
     ensures reads { ReadsOnly (keyword bytes.now at wanted) result }
     ensures forward { IfOk result (λ to. at ≤ to) }
@@ -39,12 +39,12 @@ pub fn keyword(bytes: &[u8], at: usize, wanted: Keyword) -> Result<usize, StlErr
     if is_spelled(bytes, word, text_of(wanted).as_bytes()) {
         Ok(word.to)
     } else {
-        Err(StlError::Expected(wanted, word.from as u64))
+        Err(Stl::Expected(wanted, word.from as u64))
     }
 }
 
 // The place behind the next word, whatever it is.
-fn any_word(bytes: &[u8], at: usize) -> Result<usize, StlError>
+fn any_word(bytes: &[u8], at: usize) -> Result<usize, Stl>
     requires { at ≤ length bytes.now }
     ensures reads { ReadsOnly (any_word bytes.now at) result }
     ensures forward { IfOk result (λ to. at < to) }
@@ -54,12 +54,12 @@ fn any_word(bytes: &[u8], at: usize) -> Result<usize, StlError>
     if word.from < word.to {
         Ok(word.to)
     } else {
-        Err(StlError::Expected(Keyword::NormalWord, word.from as u64))
+        Err(Stl::Expected(Keyword::NormalWord, word.from as u64))
     }
 }
 
 // A length in µm, and the place behind it.
-fn number(bytes: &[u8], at: usize) -> Result<(i64, usize), StlError>
+fn number(bytes: &[u8], at: usize) -> Result<(i64, usize), Stl>
     requires { at ≤ length bytes.now }
     ensures reads { ReadsOnly (number bytes.now at) result }
     ensures forward { IfOk result (λ n. at ≤ n.1) }
@@ -69,12 +69,12 @@ fn number(bytes: &[u8], at: usize) -> Result<(i64, usize), StlError>
     let word = next_word(bytes, at);
     match read_um(&bytes[word.from..word.to]) {
         Ok(um) => Ok((um, word.to)),
-        Err(cause) => Err(StlError::Number(word.from as u64, cause)),
+        Err(cause) => Err(Stl::Number(word.from as u64, cause)),
     }
 }
 
 // A corner in µm, and the place behind it.
-fn vertex(bytes: &[u8], at: usize) -> Result<(Point3, usize), StlError>
+fn vertex(bytes: &[u8], at: usize) -> Result<(Point3, usize), Stl>
     requires { at ≤ length bytes.now }
     ensures reads { ReadsOnly (vertex bytes.now at) result }
     ensures forward { IfOk result (λ v. at ≤ v.1) }
@@ -89,7 +89,7 @@ fn vertex(bytes: &[u8], at: usize) -> Result<(Point3, usize), StlError>
 }
 
 // The place behind a normal, whose three words are skipped unread.
-fn normal(bytes: &[u8], at: usize) -> Result<usize, StlError>
+fn normal(bytes: &[u8], at: usize) -> Result<usize, Stl>
     requires { at ≤ length bytes.now }
     ensures reads { ReadsOnly (normal bytes.now at) result }
     ensures forward { IfOk result (λ to. at < to) }
@@ -102,7 +102,7 @@ fn normal(bytes: &[u8], at: usize) -> Result<usize, StlError>
 }
 
 /// What stands behind the word `facet`, and the place behind that.
-pub fn facet(bytes: &[u8], at: usize) -> Result<(Facet, usize), StlError>
+pub fn facet(bytes: &[u8], at: usize) -> Result<(Facet, usize), Stl>
     requires { at ≤ length bytes.now }
     ensures reads { ReadsOnly (facet bytes.now at) result }
     ensures forward { IfOk result (λ f. at < f.1) }

@@ -14,7 +14,7 @@ mod mesh;
 mod parts;
 mod words;
 
-use decimal_lengths::DecimalError;
+use decimal_lengths::Decimal;
 pub use facets::text_of;
 pub use mesh::{one_answer, read_mesh};
 
@@ -36,12 +36,12 @@ pub enum Keyword {
 /// Why bytes are no mesh. A place is the number of bytes before the word that is wrong, and the length of the file where
 /// no word is left.
 #[derive(Clone, Copy, Debug, PartialEq, Eq)]
-pub enum StlError {
+pub enum Stl {
     /// As long as a binary mesh would be by the number of facets at byte 80.
     Binary,
     Expected(Keyword, u64),
     /// A word that is no length.
-    Number(u64, DecimalError),
+    Number(u64, Decimal),
     /// More than 200,000 facets, dropped ones too.
     TooManyFacets,
     NoFacet,

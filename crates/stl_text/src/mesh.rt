@@ -3,11 +3,11 @@
 ghost use Rattle.std.specs.Prelude.{◌≡◌, ◌≤◌, ◌<◌, ◌+◌, ◌↔◌, ◌⊎◌, length, IfOk, IfErr, IsTrue, Ok, Err, All, List, ℕ};
 ghost use Rattle.seq_model.specs.Bounds.{IsNearFacet};
 ghost use Rattle.seq_model.specs.declared.mesh.Facet.{Facet};
-ghost use Rattle.stl_text.specs.declared.StlError.{StlError};
+ghost use Rattle.stl_text.specs.declared.Stl.{Stl};
 ghost use Rattle.stl_text.specs.Meshes.{IsBinary, MeshOf, IsRefused, body, nothing, count};
 ghost use Rattle.stl_text.specs.Reading.{ReadsOnly};
 
-use crate::StlError;
+use crate::Stl;
 use crate::found::Found;
 use crate::parts::{Part, next_part, opening};
 use seq_limits::MOST_FACETS;
@@ -27,13 +27,13 @@ fn is_binary(bytes: &[u8]) -> bool
 }
 
 // What stands in a file from the first line of its first solid on.
-fn body(alloc: Global, bytes: &[u8], first: usize) -> Result<Found, StlError>
+fn body(alloc: Global, bytes: &[u8], first: usize) -> Result<Found, Stl>
     requires { first ≤ length bytes.now }
     ensures found { IfOk result (λ found. ReadsOnly (body bytes.now first nothing) (Ok found)) }
     ensures few { IfOk result (λ found. count found ≤ MOST_FACETS) }
     ensures near { IfOk result (λ found. All IsNearFacet found.facets) }
     ensures refused { IfErr result
-        (λ e. (e ≡ StlError.NoMemory) ⊎ ReadsOnly (body bytes.now first nothing) (Err e)) }
+        (λ e. (e ≡ Stl.NoMemory) ⊎ ReadsOnly (body bytes.now first nothing) (Err e)) }
 {
     let mut found = Found::nothing(alloc);
     let mut at = first;
@@ -41,7 +41,7 @@ fn body(alloc: Global, bytes: &[u8], first: usize) -> Result<Found, StlError>
         match next_part(bytes, at, found.count())? {
             Part::Facet(triangle, to) => {
                 if found.add(triangle).is_err() {
-                    return Err(StlError::NoMemory);
+                    return Err(Stl::NoMemory);
                 }
                 at = to;
             }
@@ -53,17 +53,17 @@ fn body(alloc: Global, bytes: &[u8], first: usize) -> Result<Found, StlError>
 
 /// The mesh of an ASCII STL file, its lengths rounded to whole µm: all its solids together, without the facets that have
 /// two equal corners, which are counted.
-pub fn read_mesh(alloc: Global, bytes: &[u8]) -> Result<Mesh, StlError>
+pub fn read_mesh(alloc: Global, bytes: &[u8]) -> Result<Mesh, Stl>
     ensures mesh { IfOk result (λ mesh. MeshOf bytes.now mesh.facets mesh.dropped) }
-    ensures refused { IfErr result (λ e. (e ≡ StlError.NoMemory) ⊎ IsRefused bytes.now e) }
+    ensures refused { IfErr result (λ e. (e ≡ Stl.NoMemory) ⊎ IsRefused bytes.now e) }
 {
     if is_binary(bytes) {
-        return Err(StlError::Binary);
+        return Err(Stl::Binary);
     }
     let first = opening(bytes, 0)?;
     let found = body(alloc, bytes, first)?;
     if found.count() == 0 {
-        return Err(StlError::NoFacet);
+        return Err(Stl::NoFacet);
     }
     Ok(Mesh {
         facets: found.facets,
@@ -75,8 +75,8 @@ pub fn read_mesh(alloc: Global, bytes: &[u8]) -> Result<Mesh, StlError>
 pub fn one_answer()
     ensures mesh { (bytes : List ℕ) (fs gs : List Facet) (d e : ℕ)
         → MeshOf bytes fs d → MeshOf bytes gs e → (fs ≡ gs) × (d ≡ e) }
-    ensures refusal { (bytes : List ℕ) (why other : StlError)
+    ensures refusal { (bytes : List ℕ) (why other : Stl)
         → IsRefused bytes why → IsRefused bytes other → why ≡ other }
-    ensures not_both { (bytes : List ℕ) (why : StlError) (fs : List Facet) (d : ℕ)
+    ensures not_both { (bytes : List ℕ) (why : Stl) (fs : List Facet) (d : ℕ)
         → IsRefused bytes why → MeshOf bytes fs d → ⊥ }
 {}

@@ -7,7 +7,7 @@ ghost use Rattle.stl_text.specs.Reading.{ReadsOnly};
 
 use crate::facets::{facet, keyword};
 use crate::words::{is_spelled, next_word, rest_of_line};
-use crate::{Keyword, StlError};
+use crate::{Keyword, Stl};
 use seq_limits::MOST_FACETS;
 use seq_model::Facet as Triangle;
 
@@ -20,7 +20,7 @@ pub enum Part {
 }
 
 /// The place behind the first line of a solid.
-pub fn opening(bytes: &[u8], at: usize) -> Result<usize, StlError>
+pub fn opening(bytes: &[u8], at: usize) -> Result<usize, Stl>
     requires { at ≤ length bytes.now }
     ensures reads { ReadsOnly (opening bytes.now at) result }
     ensures forward { IfOk result (λ to. at ≤ to) }
@@ -31,7 +31,7 @@ pub fn opening(bytes: &[u8], at: usize) -> Result<usize, StlError>
 }
 
 // What stands behind the word `endsolid`: the place behind the first line of the next solid, if there is one.
-fn closing(bytes: &[u8], at: usize) -> Result<Option<usize>, StlError>
+fn closing(bytes: &[u8], at: usize) -> Result<Option<usize>, Stl>
     requires { at ≤ length bytes.now }
     ensures reads { ReadsOnly (closing bytes.now at) result }
     ensures comes_on { IfOk result (λ next. IfSome next (λ to. ComesOn bytes.now at to)) }
@@ -46,20 +46,20 @@ fn closing(bytes: &[u8], at: usize) -> Result<Option<usize>, StlError>
 }
 
 // What stands behind the word `facet`, `count` facets before it.
-fn next_facet(bytes: &[u8], at: usize, count: usize) -> Result<Part, StlError>
+fn next_facet(bytes: &[u8], at: usize, count: usize) -> Result<Part, Stl>
     requires { at ≤ length bytes.now }
     ensures reads { ReadsOnly (next_facet bytes.now at count) result }
     ensures fits { IfOk result (λ part. PartFits bytes.now at count part) }
 {
     if count >= MOST_FACETS {
-        return Err(StlError::TooManyFacets);
+        return Err(Stl::TooManyFacets);
     }
     let (triangle, to) = facet(bytes, at)?;
     Ok(Part::Facet(triangle, to))
 }
 
 /// What stands next in a solid, `count` facets before it.
-pub fn next_part(bytes: &[u8], at: usize, count: usize) -> Result<Part, StlError>
+pub fn next_part(bytes: &[u8], at: usize, count: usize) -> Result<Part, Stl>
     requires { at ≤ length bytes.now }
     ensures reads { ReadsOnly (part bytes.now at count) result }
     ensures fits { IfOk result (λ part. PartFits bytes.now at count part) }
@@ -73,5 +73,5 @@ pub fn next_part(bytes: &[u8], at: usize, count: usize) -> Result<Part, StlError
         let next = closing(bytes, word.to)?;
         return Ok(Part::Ending(next));
     }
-    Err(StlError::Expected(Keyword::FacetOrEndsolid, word.from as u64))
+    Err(Stl::Expected(Keyword::FacetOrEndsolid, word.from as u64))
 }

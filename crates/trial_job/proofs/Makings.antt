@@ -16,8 +16,8 @@ use Rattle.std.specs.List.{AllZip}
 use Rattle.mesh_slices.specs.Objects.{CanBeSliced}
 use Rattle.printer_text.specs.Laws.Descriptions.{description-one, description-refusal}
 use Rattle.printer_text.specs.Printers.{DescribedBy, IsRefusedPrinter, PrinterOf}
-use Rattle.printer_text.specs.declared.PrinterError.{PrinterError}
-use Rattle.printer_text.specs.declared.PrinterError.TheVariants as PrinterErrors
+use Rattle.printer_text.specs.declared.Prn.{Prn}
+use Rattle.printer_text.specs.declared.Prn.TheVariants as Prns
 use Rattle.run_files.specs.Files.{NamedMesh}
 use Rattle.run_files.specs.Jobs.{IsObjectFor}
 use Rattle.seq_io.specs.declared.mem_file.MemFile.{MemFile}
@@ -30,8 +30,8 @@ use Rattle.seq_model.specs.declared.printer.Printer.{Printer}
 use Rattle.seq_trial.specs.Draws.{later}
 use Rattle.seq_trial.specs.Towers.{meshes_from, printer_text, tower_at}
 use Rattle.stl_text.specs.Meshes.{IsRefused, MeshOf}
-use Rattle.stl_text.specs.declared.StlError.{StlError}
-use Rattle.stl_text.specs.declared.StlError.TheVariants as Stls
+use Rattle.stl_text.specs.declared.Stl.{Stl}
+use Rattle.stl_text.specs.declared.Stl.TheVariants as Stls
 use Rattle.stl_text.specs.declared.found.Found.{Found}
 use Rattle.trial_job.specs.Making.{AreMadeObjects, AreUsableFiles, IsMadeObject, IsMadePrinter, IsUsableFile}
 use Rattle.trial_job.specs.Trials.{IsMeshOfFile}
@@ -53,13 +53,13 @@ usable_at (file ∷ files) zero d all h = all.0
 usable_at (file ∷ files) (suc k) d all h = usable_at files k d all.1 (omega (arith, h))
 
 -- ---- one mesh
-abbrev ok : Found → Result Found StlError
+abbrev ok : Found → Result Found Stl
 ok x = Ok x
 
-never_refused : (bytes : List ℕ) (n : ℕ) (e : StlError) → IsMadeMesh bytes n → IsRefused bytes e → ⊥
+never_refused : (bytes : List ℕ) (n : ℕ) (e : Stl) → IsMadeMesh bytes n → IsRefused bytes e → ⊥
 never_refused bytes n e m r = (let same = r.only (ok (record { facets = m.facets; dropped = 0 })) m.read in absurd cc)
 
-pub only_memory : (bytes other : List ℕ) (n : ℕ) (e : StlError) → IsMadeMesh bytes n → other ≡ bytes → (e ≡ Stls.NoMemory) ⊎ IsRefused other e → e ≡ Stls.NoMemory
+pub only_memory : (bytes other : List ℕ) (n : ℕ) (e : Stl) → IsMadeMesh bytes n → other ≡ bytes → (e ≡ Stls.NoMemory) ⊎ IsRefused other e → e ≡ Stls.NoMemory
 only_memory bytes other n e m same (inl is) = is
 only_memory bytes other n e m same (inr refused) = absurd (never_refused bytes n e m (subst (λ b. IsRefused b e) same refused))
 
@@ -74,7 +74,7 @@ slices bytes other n fs dropped m at given =
     record { some = λ e. m.some (same ∙ e); few = omega (arith, few) }
 
 -- ---- the printer
-pub printer_memory : (bytes : List ℕ) (e : PrinterError) → bytes ≡ printer_text → (e ≡ PrinterErrors.NoMemory) ⊎ IsRefusedPrinter bytes e → e ≡ PrinterErrors.NoMemory
+pub printer_memory : (bytes : List ℕ) (e : Prn) → bytes ≡ printer_text → (e ≡ Prns.NoMemory) ⊎ IsRefusedPrinter bytes e → e ≡ Prns.NoMemory
 printer_memory bytes e at (inl is) = is
 printer_memory bytes e at (inr refused) = absurd (description-refusal printer_text made_description e described (subst (λ b. IsRefusedPrinter b e) at refused))
 

@@ -5,16 +5,16 @@ ghost use Rattle.stl_text.specs.Meshes.{MeshOf};
 ghost use Rattle.trial_job.specs.Making.{IsUsableFile, AreUsableFiles, IsMadePrinter, IsMadeObject, AreMadeObjects};
 ghost use Rattle.trial_job.specs.Trials.{IsTrial};
 
-use mesh_slices::{SliceError, object};
+use mesh_slices::{Slice, object};
 use owned_lists::Items;
-use printer_text::{PrinterError, read_printer};
+use printer_text::{Prn, read_printer};
 use seq_io::MemFile;
 use seq_limits::{MOST_FACETS, MOST_OBJECTS};
 use seq_model::{Job, Mesh, Object, Printer};
 use seq_num::NoMemory;
 use seq_trial::trial_files;
 use std::alloc::Global;
-use stl_text::{StlError, read_mesh};
+use stl_text::{Stl, read_mesh};
 
 /// The job of made files, and how many facets were read of their meshes.
 #[derive(Debug, Drop)]
@@ -45,7 +45,7 @@ fn made_printer(alloc: Global, bytes: &[u8]) -> Result<Printer, NoMemory>
     match read_printer(alloc, bytes) {
         Ok(printer) => Ok(printer),
         Err(why) => match why {
-            PrinterError::NoMemory => Err(NoMemory),
+            Prn::NoMemory => Err(NoMemory),
             _ => unreachable!(),
         },
     }
@@ -60,7 +60,7 @@ fn made_mesh(alloc: Global, file: &MemFile) -> Result<Mesh, NoMemory>
     match read_mesh(alloc, file.bytes.as_slice()) {
         Ok(mesh) => Ok(mesh),
         Err(why) => match why {
-            StlError::NoMemory => Err(NoMemory),
+            Stl::NoMemory => Err(NoMemory),
             _ => unreachable!(),
         },
     }
@@ -87,7 +87,7 @@ fn made_object(alloc: Global, file: &MemFile, printer: &Printer) -> Result<Made,
             object,
             facets: facets_read(&mesh),
         }),
-        Err(SliceError::NoMemory) => Err(NoMemory),
+        Err(Slice::NoMemory) => Err(NoMemory),
         Err(_) => unreachable!(),
     }
 }

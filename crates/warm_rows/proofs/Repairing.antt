@@ -26,7 +26,7 @@ use Rattle.seq_model.specs.Systems.{MeetsRows}
 use Rattle.seq_model.specs.Walks.{constant, Stops}
 use Rattle.seq_model.specs.declared.row.Row.{Row}
 use Rattle.warm_rows.specs.Answering.{Finds, HasSmallDen}
-use Rattle.warm_rows.specs.Warming.{Warmth, Repairs, SomeEndsWide, IsWarmZeroPoint, IsRowStep, rows_of, after_steps, standing, Gives}
+use Rattle.warm_rows.specs.Warming.{Warmth, Repairs, SomeEndsWide, IsZeroPoint, IsRowStep, rows_of, after_steps, standing, Gives}
 use Rattle.warm_rows.specs.declared.step.Step.{Step}
 use Rattle.warm_rows.specs.declared.step.Step.TheVariants as Steps
 use Rattle.warm_rows.specs.declared.step.Warmed.{Warmed}
@@ -132,7 +132,7 @@ started vars steps t g a = one_given vars steps t (start vars (rows_of steps)) g
     stood = rows_alone vars (range_with_len 0 vars) 0 steps a
 
 pub zero_found : (vars : ℕ) (steps : List Step) (t new : Seen) → Gives vars steps t → (NothingToLeave t → new ≡ t) → All IsRowStep steps → MeetsRows (rows_of steps) (pos 1) (zeros vars)
-    → (turn : Turn) → Ended (rows_of steps) new turn → (warmed : Warmed) → Finds new turn warmed → IsWarmZeroPoint vars warmed
+    → (turn : Turn) → Ended (rows_of steps) new turn → (warmed : Warmed) → Finds new turn warmed → IsZeroPoint vars warmed
 zero_found vars steps t new g stays a m turn e warmed f = at turn (subst (λ (s : Seen). Ended (rows_of steps) s turn) same e) warmed (subst (λ (s : Seen). Finds s turn warmed) same f)
   where
     rows : List Row
@@ -147,7 +147,7 @@ zero_found vars steps t new g stays a m turn e warmed f = at turn (subst (λ (s 
     same : new ≡ start vars (rows_of steps)
     same = stays (subst (λ (s : Seen). least_leaving s.basic s.lines ≡ None) (sym first) none) ∙ first
 
-    at : (turn : Turn) → Ended (rows_of steps) (start vars (rows_of steps)) turn → (warmed : Warmed) → Finds (start vars (rows_of steps)) turn warmed → IsWarmZeroPoint vars warmed
+    at : (turn : Turn) → Ended (rows_of steps) (start vars (rows_of steps)) turn → (warmed : Warmed) → Finds (start vars (rows_of steps)) turn warmed → IsZeroPoint vars warmed
     at Turns.Point e (Warmeds.Point den list) f = zero_answer vars (rows_of steps) none Turns.Point e (Solveds.Point den list) f
     at Turns.Point e (Warmeds.Contradiction list) f = absurd f
     at Turns.Point e Warmeds.Cold f = absurd f

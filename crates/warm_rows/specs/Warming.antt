@@ -13,7 +13,7 @@
 --   AddsPivots old new        some pivots more, and nothing else
 --   SomeEndsWide vars rows start, WalksWide w     the walk from a start, from the basis of the table, ends before a wide basis
 --   Repairs old new warmed    the walk from the old basis, and what its end shows of the rows
---   IsWarmZeroPoint vars warmed   it is the point of which all coordinates are 0, over 1
+--   IsZeroPoint vars warmed   it is the point of which all coordinates are 0, over 1
 use Rattle.std.specs.Prelude.{◌≡◌, ℕ, suc, ◌+◌, ◌<◌, ◌≤◌, ◌^◌, List, [], ◌∷◌, ◌++◌, pos, ◌≤ℤ◌, ◌<ℤ◌, All, length, map}
 use Rattle.std.specs.List.{range_with_len}
 use Rattle.integer_laws.specs.Vectors.{zeros}
@@ -108,10 +108,10 @@ Repairs old new (Warmeds.Contradiction list) =
     × WalksFrom (rows_of old.steps) old.table new.table × (WalksWide old → ⊥)
 Repairs old new Warmeds.Cold = WalksFrom (rows_of old.steps) old.table new.table × WalksWide old
 
-abbrev pub IsWarmZeroPoint : ℕ → Warmed → Type 0
-IsWarmZeroPoint vars (Warmeds.Point den list) = (den ≡ pos 1) × (list.items ≡ zeros vars)
-IsWarmZeroPoint vars (Warmeds.Contradiction list) = ⊥
-IsWarmZeroPoint vars Warmeds.Cold = ⊥
+abbrev pub IsZeroPoint : ℕ → Warmed → Type 0
+IsZeroPoint vars (Warmeds.Point den list) = (den ≡ pos 1) × (list.items ≡ zeros vars)
+IsZeroPoint vars (Warmeds.Contradiction list) = ⊥
+IsZeroPoint vars Warmeds.Cold = ⊥
 
 abbrev pub IsRowStep : Step → Type 0
 IsRowStep (Steps.Row row) = Unit {0}

@@ -4,7 +4,7 @@ ghost use Rattle.row_dictionary.specs.Scans.{IsSmallRow};
 ghost use Rattle.seq_model.specs.Systems.{MeetsRows};
 ghost use Rattle.warm_rows.specs.Answering.{IsReadOff};
 ghost use Rattle.warm_rows.specs.Keeping.{Kept};
-ghost use Rattle.warm_rows.specs.Warming.{AddsRow, AddsPivots, Gives, IsRowStep, IsWarmZeroPoint, Repairs, no_steps, rows_of};
+ghost use Rattle.warm_rows.specs.Warming.{AddsRow, AddsPivots, Gives, IsRowStep, IsZeroPoint, Repairs, no_steps, rows_of};
 
 use crate::answering::answer;
 use crate::step::{Added, Mark, Step, Warmed};
@@ -147,7 +147,7 @@ impl Warm {
         ensures read { IfOk result (IsReadOff (rows_of self.old.steps) self.new.table) }
         ensures zero { All IsRowStep self.old.steps
             → MeetsRows (rows_of self.old.steps) (pos 1) (zeros self.old.vars)
-            → IfOk result (IsWarmZeroPoint self.old.vars) }
+            → IfOk result (IsZeroPoint self.old.vars) }
     {
         let turn = walk(&mut self.dictionary, &mut self.steps)?;
         let warmed = answer(alloc, &self.dictionary, self.vars, turn)?;

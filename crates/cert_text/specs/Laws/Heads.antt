@@ -27,8 +27,8 @@ use Rattle.seq_num.specs.Spelling.{spelling}
 use Rattle.text_lines.specs.Reading.{literal_at, whole_at, digit_count}
 use Rattle.cert_text.specs.Laws.Numbers.{CanBeSpelt, IsSeparator, comma_is, starts_plain, number_takes, number_again, numbers_takes, numbers_again}
 use Rattle.seq_model.specs.declared.tree.WideNote.{WideNote}
-use Rattle.cert_text.specs.declared.block.BlockError.{BlockError}
-use Rattle.cert_text.specs.declared.block.BlockError.TheVariants as answers
+use Rattle.cert_text.specs.declared.block.CertRead.{CertRead}
+use Rattle.cert_text.specs.declared.block.CertRead.TheVariants as answers
 use Rattle.seq_model.specs.declared.what.What.TheVariants as what
 use Rattle.cert_text.specs.Heads.{rising, is_due, wide_start_at, wide_at, is_wide_far, note_of, noted, note_at, with_note, headed, extended, begun, head_at, IsRefusedTree, before, refused}
 use Rattle.cert_text.specs.Laws.Counts.{IsCount, neither, count_is, count_small, counted, all_small, again, none_far}
@@ -177,7 +177,7 @@ note_takes : (bytes rest : List ℕ) (note : WideNote) → note_at bytes ≡ Ok 
 unfolding note_at
 note_takes bytes rest note e = by (wide_at bytes) refl e
   where
-    far : (r : (Wide × List ℤ) × List ℕ) (b : Bool) → wide_at bytes ≡ Some r → is_wide_far r.0.0 r.0.1 ≡ b → cond {A = Result (WideNote × List ℕ) BlockError} b (Err (answers.Line 3 what.Range)) (Ok (note_of r.0.0 r.0.1, r.1)) ≡ Ok (note, rest) → TakesNote bytes rest note
+    far : (r : (Wide × List ℤ) × List ℕ) (b : Bool) → wide_at bytes ≡ Some r → is_wide_far r.0.0 r.0.1 ≡ b → cond {A = Result (WideNote × List ℕ) CertRead} b (Err (answers.Line 3 what.Range)) (Ok (note_of r.0.0 r.0.1, r.1)) ≡ Ok (note, rest) → TakesNote bytes rest note
     far r true h k e = absurd cc
     far r false h k e =
         let both : (note_of r.0.0 r.0.1, r.1) ≡ (note, rest) = cc in
@@ -273,7 +273,7 @@ headed_takes OpenBudget bytes after rest extent h is low high e =
     subst (λ (p : Head × List ℕ). TakesHead OpenBudget bytes p.1 p.0) both (without_note OpenBudget bytes after extent is low high refl)
 headed_takes OpenWide bytes after rest extent h is low high e = by (note_at after) refl e
   where
-    by : (r : Result (WideNote × List ℕ) BlockError) → note_at after ≡ r → with_note extent r ≡ Ok (h, rest) → TakesHead OpenWide bytes rest h
+    by : (r : Result (WideNote × List ℕ) CertRead) → note_at after ≡ r → with_note extent r ≡ Ok (h, rest) → TakesHead OpenWide bytes rest h
     by (Err x) k e = absurd cc
     by (Ok n) k e =
         let v : Head = record { kind = OpenWide; extent = extent; wide = Some n.0 } in
@@ -344,7 +344,7 @@ same_head kind bytes a b g h e f =
     let both : (g, a) ≡ (h, b) = cc (sym e ∙ f) in
     (ap (λ (p : Head × List ℕ). p.0) both, ap (λ (p : Head × List ℕ). p.1) both)
 
-pub tree_all : (kind : Kind) (bytes : List ℕ) (r : Result (Head × Tree) BlockError) → IfOk r (λ x. IsTreeText bytes kind x.0 x.1) → IfErr r (λ e. e ≢ answers.NoMemory → IsRefusedTree bytes kind e)
+pub tree_all : (kind : Kind) (bytes : List ℕ) (r : Result (Head × Tree) CertRead) → IfOk r (λ x. IsTreeText bytes kind x.0 x.1) → IfErr r (λ e. e ≢ answers.NoMemory → IsRefusedTree bytes kind e)
     → (head : Head) (tree : Tree) → IsTreeText bytes kind head tree → r ≢ Err answers.NoMemory → r ≡ Ok (head, tree)
 tree_all kind bytes (Ok x) read was head tree is some =
     let a = is_read kind bytes x.0 x.1 read in
@@ -364,16 +364,16 @@ tree_all kind bytes (Err e) read was head tree is some = absurd (by (was (λ k. 
         refused_or_read line_at h.rest h.fault tree.nodes h.is (subst (λ l. AreTree line_at l tree.nodes) (sym same.1) b.nodes)
 
 -- ---- what is refused
-never_both : (kind : Kind) (bytes : List ℕ) (e : BlockError) (h : Head) (t : Tree) → IsRefusedTree bytes kind e → IsRead kind bytes h t → ⊥
+never_both : (kind : Kind) (bytes : List ℕ) (e : CertRead) (h : Head) (t : Tree) → IsRefusedTree bytes kind e → IsRead kind bytes h t → ⊥
 never_both kind bytes e h t (inl r) b = cc (sym r ∙ b.head)
 never_both kind bytes e h t (inr r) b =
     let same = same_head kind bytes r.rest (nodes_text t.nodes) r.head h r.read b.head in
     refused_or_read line_at r.rest r.fault t.nodes r.is (subst (λ l. AreTree line_at l t.nodes) (sym same.1) b.nodes)
 
-one_refused : (kind : Kind) (bytes : List ℕ) (a b : BlockError) → IsRefusedTree bytes kind a → IsRefusedTree bytes kind b → a ≡ b
+one_refused : (kind : Kind) (bytes : List ℕ) (a b : CertRead) → IsRefusedTree bytes kind a → IsRefusedTree bytes kind b → a ≡ b
 one_refused kind bytes a b (inl r) (inl s) = err_one (head_at kind bytes) a b r s
   where
-    err_one : (x : Result (Head × List ℕ) BlockError) (a b : BlockError) → x ≡ Err a → x ≡ Err b → a ≡ b
+    err_one : (x : Result (Head × List ℕ) CertRead) (a b : CertRead) → x ≡ Err a → x ≡ Err b → a ≡ b
     err_one x a b r s = cc (sym r ∙ s)
 one_refused kind bytes a b (inl r) (inr s) = absurd (cc (sym r ∙ s.read))
 one_refused kind bytes a b (inr r) (inl s) = absurd (cc (sym s ∙ r.read))
@@ -382,7 +382,7 @@ one_refused kind bytes a b (inr r) (inr s) =
     let fault = one_refusal line_at s.rest r.fault s.fault (subst (λ l. IsRefusedAt line_at l r.fault) same.1 r.is) s.is in
     r.answer ∙ (ap (refused (before kind)) fault ∙ sym s.answer)
 
-pub tree_refuses : (kind : Kind) (bytes : List ℕ) (r : Result (Head × Tree) BlockError) → IfOk r (λ x. IsTreeText bytes kind x.0 x.1) → IfErr r (λ e. e ≢ answers.NoMemory → IsRefusedTree bytes kind e)
-    → (e : BlockError) → IsRefusedTree bytes kind e → r ≢ Err answers.NoMemory → r ≡ Err e
+pub tree_refuses : (kind : Kind) (bytes : List ℕ) (r : Result (Head × Tree) CertRead) → IfOk r (λ x. IsTreeText bytes kind x.0 x.1) → IfErr r (λ e. e ≢ answers.NoMemory → IsRefusedTree bytes kind e)
+    → (e : CertRead) → IsRefusedTree bytes kind e → r ≢ Err answers.NoMemory → r ≡ Err e
 tree_refuses kind bytes (Ok x) read was e is some = absurd (never_both kind bytes e x.0 x.1 is (is_read kind bytes x.0 x.1 read))
 tree_refuses kind bytes (Err f) read was e is some = ap Err (one_refused kind bytes f e (was (λ k. some (ap Err k))) is)

@@ -58,7 +58,7 @@ module _ (files : List MemFile) (name : List ℕ) (task : Task) (step : ℤ) (m 
       let count : open_edges m.facets ≡ edges = sym (n.counted ∙ ap open_edges same) in
       let sum : six_volume m.facets ≡ volume = sym (n.summed ∙ ap six_volume same) in
       n.refused (subst (IsClosedOutward edges) sum (subst (λ k. IsClosedOutward k (six_volume m.facets)) count (u.passes.closed n.asked)))
-  unfit Causes.NoFacetLeft r =
+  unfit Causes.Flat r =
       let same = mesh_file-one files name r.facets m.facets r.dropped m.dropped r.is u.is in
       u.slices.some (sym same ∙ r.unfit.1)
   unfit (Causes.TooTall bands) r =
@@ -73,7 +73,7 @@ module _ (files : List MemFile) (name : List ℕ) (task : Task) (step : ℤ) (m 
   usable_mesh (Causes.Block e) r = r
   usable_mesh (Causes.Stl e) r = refused_no_mesh r.bytes e m.facets m.dropped r.refused (subst (λ b. MeshOf b m.facets m.dropped) (u.is.gives ∙ sym r.gives) u.is.is)
   usable_mesh (Causes.NotClosed edges volume) r = unfit (Causes.NotClosed edges volume) r
-  usable_mesh Causes.NoFacetLeft r = unfit Causes.NoFacetLeft r
+  usable_mesh Causes.Flat r = unfit Causes.Flat r
   usable_mesh (Causes.TooTall bands) r = unfit (Causes.TooTall bands) r
 
 -- the mesh of a number among those that can be used
@@ -98,7 +98,7 @@ plan_unusable files task name plan (Causes.Plan e) s r = stated_unusable files t
 plan_unusable files task name plan (Causes.Block e) s r = stated_unusable files task name plan (Causes.Block e) s r
 plan_unusable files task name plan (Causes.Stl e) s r = r
 plan_unusable files task name plan (Causes.NotClosed edges volume) s r = r
-plan_unusable files task name plan Causes.NoFacetLeft s r = r
+plan_unusable files task name plan Causes.Flat s r = r
 plan_unusable files task name plan (Causes.TooTall bands) s r = r
 
 named_plan_unusable : (files : List MemFile) (task : Task) (named : Option (List ℕ)) (plan : Option GivenPlan) (c : Cause) → IsSome named → HasNamedPlan (Some files) task named plan → IsRefusedPlan (Some files) task (name_or named) c → ⊥
@@ -116,7 +116,7 @@ refused_files-unusable files a inputs file c r x = by file c r
     by Named.Printer (Causes.Block e) r = r
     by Named.Printer (Causes.Stl e) r = r
     by Named.Printer (Causes.NotClosed edges volume) r = r
-    by Named.Printer Causes.NoFacetLeft r = r
+    by Named.Printer Causes.Flat r = r
     by Named.Printer (Causes.TooTall bands) r = r
     by Named.Plan c r = named_plan_unusable files a.task a.plan inputs.plan c r.before.named x.plan r.refused
     by (Named.Mesh k) c r =

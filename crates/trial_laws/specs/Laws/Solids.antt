@@ -19,7 +19,7 @@ use Rattle.stl_text.specs.Grammar.{part}
 use Rattle.stl_text.specs.Meshes.{Body, HasThreeCorners, count, facet, keeps}
 use Rattle.stl_text.specs.Reading.{passes, yes}
 use Rattle.stl_text.specs.Words.{is_black}
-use Rattle.stl_text.specs.declared.StlError.{StlError}
+use Rattle.stl_text.specs.declared.Stl.{Stl}
 use Rattle.stl_text.specs.declared.found.Found.{Found}
 use Rattle.stl_text.specs.declared.parts.Part.TheVariants as Parts
 use Rattle.trial_laws.specs.Laws.Facets.{IsSmall, facet_at, facet_front, facet_of, facet_pieces, point_of}
@@ -46,11 +46,11 @@ abbrev pub found_of : List Facet → Found
 found_of facets = record { facets = facets; dropped = 0 }
 
 -- what the text behind some facets reads
-abbrev pub Then : List ℕ → List ℕ → List Facet → Result Found StlError → Type 0
+abbrev pub Then : List ℕ → List ℕ → List Facet → Result Found Stl → Type 0
 Then bytes tail found r = (to : ℕ) (sp : List ℕ) → passes_none is_black sp ≡ true → drop to bytes ≡ sp ++ tail → Body bytes to (found_of found) r
 
 pub record ReadsAs (text : List ℕ) (facets : List Facet) : Type 0 where
-  pub reads : (bytes : List ℕ) (at : ℕ) (sp tail : List ℕ) (before : List Facet) (r : Result Found StlError) → passes_none is_black sp ≡ true → drop at bytes ≡ sp ++ (text ++ tail)
+  pub reads : (bytes : List ℕ) (at : ℕ) (sp tail : List ℕ) (before : List Facet) (r : Result Found Stl) → passes_none is_black sp ≡ true → drop at bytes ≡ sp ++ (text ++ tail)
       → length before + length facets ≤ 200_000 → Then bytes tail (before ++ facets) r → Body bytes at (found_of before) r
   pub plain : list_all is_plain text ≡ true
   pub short : length text ≤ 200 * length facets
@@ -172,7 +172,7 @@ solid_facet a b c small_a small_b small_c a_b b_c c_a =
       count = refl;
     }
   where
-    one : HasThreeCorners (facet_of a b c) → (bytes : List ℕ) (at : ℕ) (sp tail : List ℕ) (before : List Facet) (r : Result Found StlError) → passes_none is_black sp ≡ true → drop at bytes ≡ sp ++ (facet_text a b c ++ tail)
+    one : HasThreeCorners (facet_of a b c) → (bytes : List ℕ) (at : ℕ) (sp tail : List ℕ) (before : List Facet) (r : Result Found Stl) → passes_none is_black sp ≡ true → drop at bytes ≡ sp ++ (facet_text a b c ++ tail)
         → length before + 1 ≤ 200_000 → Then bytes tail (before ++ facet_of a b c ∷ []) r → Body bytes at (found_of before) r
     one three bytes at sp tail before r white e room next =
         let there : drop at bytes ≡ sp ++ (codes "facet" ++ facet_front a b c tail) = e ∙ ap (λ l. sp ++ l) (facet_pieces a b c tail) in

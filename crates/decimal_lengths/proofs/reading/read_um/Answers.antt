@@ -1,6 +1,6 @@
 use Rattle.std.proofs.Common.{◌≡◌, ◌<◌, length, Ok, Err, rules, arith}
 use Rattle.std.proofs.lemmas.List.{nil_from_length}
-use Rattle.decimal_lengths.specs.declared.DecimalError.TheVariants.{Empty, TooLong}
+use Rattle.decimal_lengths.specs.declared.Decimal.TheVariants.{Empty, TooLong}
 use Rattle.decimal_lengths.proofs.Computing.{value_of}
 use Rattle.decimal_lengths.proofs.Refusing.{exact}
 use Rattle.decimal_lengths.proofs.reading.read_um.Goals as goal

@@ -1,5 +1,5 @@
 use Rattle.std.proofs.Common.{◌≡◌, ℕ, sym, subst, arith, length}
-use Rattle.node_looks.specs.Candidates.{IsSomeHit}
+use Rattle.node_looks.specs.Candidates.{IsNearest}
 use Rattle.pair_constraints.specs.Keeping.{IsKept}
 use Rattle.pair_constraints.specs.Maximal.{IsOf}
 use Rattle.pair_constraints.specs.declared.kept.Kept.{Kept}
@@ -20,4 +20,4 @@ loop-k-preserved c =
 pub returns : goal.returns
 returns c =
     let all : c.loop-k.k ≡ length c.args.pair.now = omega arith in
-    subst (λ (n : ℕ). IsSomeHit c.args.site.now c.args.i c.args.j n c.args.pair.now c.loop-k.best) all c.loop-k.invariant
+    subst (λ (n : ℕ). IsNearest c.args.site.now c.args.i c.args.j n c.args.pair.now c.loop-k.best) all c.loop-k.invariant

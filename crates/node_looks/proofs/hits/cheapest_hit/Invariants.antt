@@ -1,5 +1,5 @@
-use Rattle.node_looks.specs.Candidates.{IsSomeHit}
+use Rattle.node_looks.specs.Candidates.{IsNearest}
 use Rattle.node_looks.proofs.hits.cheapest_hit.Given as goal
 
 abbrev pub invariant-loop-k : goal.invariant-loop-k
-invariant-loop-k l = IsSomeHit l.site l.i l.j l.k l.pair l.best
+invariant-loop-k l = IsNearest l.site l.i l.j l.k l.pair l.best

@@ -10,7 +10,7 @@ pub returns-in-Some : goal.returns-in-Some
 returns-in-Some c =
     let fits : FitsSigned w128 c.args.scale = search rules in
     let scene = scene_of_job c.args.job.now in
-    first_hit_some scene c.args.scale _ c.args.places.now (c.in-Some.earlier, (c.in-Some.later, (c.in-Some.later_band, (c.in-Some.earlier_band, c.in-Some.part)))) c.requires.one (to_z-of_z fits)
+    first_hit_some scene c.args.scale _ c.args.places.now (c.in-Some.earlier, (c.in-Some.later, (c.in-Some.b, (c.in-Some.c, c.in-Some.part)))) c.requires.one (to_z-of_z fits)
     (subst (IsFirst (HitsAt scene _ c.args.places.now) (Sooner (Sooner (Sooner (Sooner Less))))) c.in-Some.is c.first_numbers.ensures)
 
 pub returns-in-None : goal.returns-in-None

@@ -1,7 +1,7 @@
 use Rattle.std.proofs.Common.{◌≡◌, ◌∙◌, ap, sym, true, false, Err, Ok, eqb, pos, FitsSigned, arith, rules}
 use Rattle.std.proofs.lemmas.Int.{to_z-of_z}
 use Rattle.plan_text.specs.declared.file.PlanFile.{PlanFile}
-use Rattle.plan_text.specs.declared.reading.PlanError.TheVariants as refused
+use Rattle.plan_text.specs.declared.reading.PlanRead.TheVariants as refused
 use Rattle.std.proofs.lemmas.Bool.Decides.{nat_tests}
 use Rattle.plan_text.specs.Reading.{divisor_of}
 use Rattle.text_lines.specs.Laws.Results.{mapped_ok, mapped_err, answered_ok, answered_err, handed_on}

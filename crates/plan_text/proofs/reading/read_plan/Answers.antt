@@ -1,7 +1,7 @@
 use Rattle.std.proofs.Common.{◌≡◌, ◌≢◌, ◌-◌, ◌∙◌, ap, sym, Result, Err, Ok, ℕ, length, arith, rules}
 use Rattle.plan_text.specs.declared.file.PlanFile.{PlanFile}
-use Rattle.plan_text.specs.declared.reading.PlanError.{PlanError}
-use Rattle.plan_text.specs.declared.reading.PlanError.TheVariants as refused
+use Rattle.plan_text.specs.declared.reading.PlanRead.{PlanRead}
+use Rattle.plan_text.specs.declared.reading.PlanRead.TheVariants as refused
 use Rattle.plan_text.specs.Reading.{file_at, ended, plan_answer}
 use Rattle.text_lines.specs.Laws.Results.{answered_ok, answered_err}
 use Rattle.plan_text.proofs.Answering.{no_file, no_end, whole, within, answer_is, all_of}
@@ -32,6 +32,6 @@ returns c =
     let read : file_at c.args.bytes.now ≡ Ok (c.in_ok-file.file, c.in_ok-file.rest.now) = answered_ok refused.NoMemory _ _ _ _ c.file.ensures c.in_ok-file.was in
     let end : ended c.in_ok-file.file c.in_ok-file.rest.now ≡ Ok tt = sym c.end.ensures ∙ c.in_ok-end.was in
     let place = length c.args.bytes.now - length c.in_ok-file.rest.now in
-    let result : Result (PlanFile × ℕ) PlanError = Ok (c.in_ok-file.file, place) in
+    let result : Result (PlanFile × ℕ) PlanRead = Ok (c.in_ok-file.file, place) in
     let answer : result ≢ Err refused.NoMemory → result ≡ plan_answer c.args.bytes.now = λ _. sym (whole _ _ _ read end) in
     record { answer = answer; read = answer_is _ _ _ read end; all = all_of _ _ answer }

@@ -1,7 +1,7 @@
 use Rattle.std.proofs.Common.{rules, ◌≡◌, ◌≢◌, ℕ, ◌-◌, List, length, take, drop, arith, length-drop, subst}
 use Rattle.std.proofs.lemmas.List.{take_all}
 use Rattle.cert_text.specs.Heads.{IsRefusedTree}
-use Rattle.cert_text.specs.declared.block.BlockError.TheVariants.{NoMemory}
+use Rattle.cert_text.specs.declared.block.CertRead.TheVariants.{NoMemory}
 use Rattle.cert_text.specs.declared.block.Kind.TheVariants.{Certificate}
 use Rattle.run_files.specs.Causes.{HasNoBlock}
 use Rattle.run_files.specs.Plans.{IsBlockOf, reads_block}

@@ -2,7 +2,7 @@ use Rattle.std.proofs.Common.{◌∙◌, pos, All, subst}
 use Rattle.integer_laws.specs.Vectors.{zeros}
 use Rattle.seq_model.specs.Systems.{MeetsRows}
 use Rattle.warm_rows.specs.Answering.{IsReadOff}
-use Rattle.warm_rows.specs.Warming.{Warmth, IsRowStep, IsWarmZeroPoint, Repairs, rows_of}
+use Rattle.warm_rows.specs.Warming.{Warmth, IsRowStep, IsZeroPoint, Repairs, rows_of}
 use Rattle.warm_rows.proofs.Repairing.{repairs, some_mults_of, zero_found}
 use Rattle.warm_rows.proofs.Walks.{held_on}
 use Rattle.warm_rows.proofs.warm.Warm.repair.Goals as goal
@@ -32,5 +32,5 @@ returns-clause-zero c =
     let s = c.self.inside in
     let on = c.walk.ensures.on in
     let end = c.in_ok-turn.ensures.end in
-    subst (λ (w : Warmth). All IsRowStep w.steps → MeetsRows (rows_of w.steps) (pos 1) (zeros w.vars) → IsWarmZeroPoint w.vars c.in_ok-warmed.warmed) c.self.view_is
+    subst (λ (w : Warmth). All IsRowStep w.steps → MeetsRows (rows_of w.steps) (pos 1) (zeros w.vars) → IsZeroPoint w.vars c.in_ok-warmed.warmed) c.self.view_is
     (λ rows meets. zero_found s.vars s.steps.items s.dictionary c.walk.new.dictionary c.self.invariant.gives on.stays rows meets c.in_ok-turn.turn end.ended c.in_ok-warmed.warmed c.in_ok-warmed.ensures.is)

@@ -1,7 +1,0 @@
-use Rattle.cert_checker.specs.Prepared.{HasSidesAt}
-use Rattle.cert_checker.specs.declared.prepared.Met.{Met}
-use Rattle.cert_checker.proofs.Tables.{remembered}
-use Rattle.cert_checker.proofs.prepared.remember.Goals as goal
-
-pub returns : goal.returns
-returns c = λ job choices all has. remembered _ (λ (m : Met). HasSidesAt job choices m.contact m.range) _ _ _ _ c.in_ok-insert.ensures.entries all has

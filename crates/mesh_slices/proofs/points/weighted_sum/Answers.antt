@@ -1,6 +1,0 @@
-use Rattle.std.proofs.Common.{arith}
-use Rattle.integer_laws.specs.Laws.Steps.{steps}
-use Rattle.mesh_slices.proofs.points.weighted_sum.Goals as goal
-
-pub returns-clause-value : goal.returns-clause-value
-returns-clause-value c = grind (arith, steps)
